@@ -1,0 +1,21 @@
+use mathlib.Core.Path.{ap}
+use lib.Ieee.{neg}
+use Rattle.float.specs.Float.{nextDown}
+use borrow.Author.Needs.{needs}
+use Rattle.float.proofs.next_down.Statement.{statement}
+use Rattle.float.proofs.next_down.Tie as tie
+use Rattle.float.proofs.next_down.Reads as reads
+use Rattle.float.proofs.next_down.Lts as lts
+use Rattle.float.proofs.next_up.Reads as next-up-reads
+
+-- src/lib.rt:35:6
+next-up-requires : tie.Need-next-up-requires
+next-up-requires c κs = search needs
+
+-- src/lib.rt:32:1
+returns : tie.Need-returns
+unfolding nextDown
+returns c = ap neg (c .next-up .ensures)
+
+pub next-down-spec : {M : Type 1} → statement M
+next-down-spec = tie.close (tie.spec next-up-requires returns)

@@ -1,0 +1,105 @@
+// f64 from the bits: IEEE 754's nextUp, nextDown, abs, the lesser and the greater of two, and the
+// order of totalOrder. Each contract is one equation with a definition of `specs/Float.antt`.
+ghost use mathlib.Core.Path.{_≡_};
+ghost use mathlib.Core.Bool.{false, _||_};
+ghost use lib.Ieee.{isNan, inf};
+ghost use Rattle.float.specs.Float.{nextBits, negative, nextUp, nextDown, abs, finite, lesser, greater, before};
+
+pub fn is_nan(x: f64) -> bool
+    ensures { λ r. ⌜ r ≡ isNan x ⌝ }
+{
+    x != x
+}
+
+// The pattern after b.
+fn next_bits(b: u64) -> u64
+    ensures { λ r. ⌜ r ≡ nextBits b ⌝ }
+{
+    if b < 0x7ff0_0000_0000_0000 {
+        return b + 1;
+    }
+    if b == 0x7ff0_0000_0000_0000 {
+        return b;
+    }
+    if b == 0x8000_0000_0000_0000 {
+        return 1;
+    }
+    b - 1
+}
+
+pub fn next_up(x: f64) -> f64
+    ensures { λ r. ⌜ r ≡ nextUp x ⌝ }
+{
+    if is_nan(x) {
+        return x;
+    }
+    f64::from_bits(next_bits(f64::to_bits(x)))
+}
+
+pub fn next_down(x: f64) -> f64
+    ensures { λ r. ⌜ r ≡ nextDown x ⌝ }
+{
+    -next_up(-x)
+}
+
+// The sign bit; false at a NaN.
+pub fn is_negative(x: f64) -> bool
+    ensures { λ r. ⌜ r ≡ negative x ⌝ }
+{
+    if is_nan(x) {
+        return false;
+    }
+    f64::to_bits(x) >= 0x8000_0000_0000_0000
+}
+
+pub fn abs(x: f64) -> f64
+    ensures { λ r. ⌜ r ≡ abs x ⌝ }
+{
+    if is_negative(x) { -x } else { x }
+}
+
+pub fn is_finite(x: f64) -> bool
+    ensures { λ r. ⌜ r ≡ finite x ⌝ }
+{
+    let d = x - x;
+    d == d
+}
+
+pub fn lesser(x: f64, y: f64) -> f64
+    ensures { λ r. ⌜ r ≡ lesser x y ⌝ }
+{
+    if y < x { y } else { x }
+}
+
+pub fn greater(x: f64, y: f64) -> f64
+    ensures { λ r. ⌜ r ≡ greater x y ⌝ }
+{
+    if x < y { y } else { x }
+}
+
+// Whether x stands before y in totalOrder, neither being a NaN; a NaN stands before and after nothing.
+pub fn before(x: f64, y: f64) -> bool
+    ensures { λ r. ⌜ r ≡ before x y ⌝ }
+{
+    if x < y {
+        return true;
+    }
+    if x == y {
+        if is_negative(x) {
+            return !is_negative(y);
+        }
+    }
+    false
+}
+
+pub fn infinity() -> f64
+    ensures { λ r. ⌜ r ≡ inf false ⌝ }
+{
+    f64::from_bits(0x7ff0_0000_0000_0000)
+}
+
+pub fn either_nan(x: f64, y: f64) -> bool
+    ensures { λ r. ⌜ r ≡ (isNan x || isNan y) ⌝ }
+{
+    is_nan(x) | is_nan(y)
+}
