@@ -3,7 +3,7 @@ use mathlib.Core.Path.{_≡_, refl, sym, ap, _∙_, subst}
 use mathlib.Core.Bool.{Bool, true, false, not, _&&_, _||_, Bool·beq, cond}
 use Prim.Native.Nat.{ℕ, zero, suc, _+_, _-_, _*_, _/_, _%_, _^_, _≤_, _<_}
 use native.Mathlib.Omega.{arith}
-use borrow.Author.Tests.{lt-leb, le-leb}
+use borrow.Author.Tests.{lt-leb, le-leb, lt-ltb}
 use lib.Dec.{T, ltb, eqb, leb, eqb-refl, not-T, T-not, ltb→lt, nltb→le, lt→ltb, eqb→eq}
 use lib.IntN.{ℤ}
 use lib.Ieee.{Format, emax, round, units, odd, Float, nan, inf, fin, up, down, prec, hid, low, size, binary64, isNan, ne, eq, nanBits, toBits, ofBits, fits, neg, sub, add, sum}
@@ -41,6 +41,9 @@ plain n h = subst (λ (b : Bool). T (not b)) (sym (nanBits-above binary64 n)) (n
 
 pub plain-back : (n : ℕ) → T (not (nanBits binary64 n)) → n % 0x8000_0000_0000_0000 ≤ 0x7ff0_0000_0000_0000
 plain-back n h = nltb→le 0x7ff0_0000_0000_0000 (n % 0x8000_0000_0000_0000) (subst (λ (b : Bool). T (not b)) (nanBits-above binary64 n) h)
+
+pub beyond : (n : ℕ) → 0x7ff0_0000_0000_0000 < n % 0x8000_0000_0000_0000 → ofBits binary64 n ≡ nan
+beyond n h = is-nan (ofBits binary64 n) (sym (nanBits-is binary64 n) ∙ nanBits-above binary64 n ∙ lt-ltb 0x7ff0_0000_0000_0000 (n % 0x8000_0000_0000_0000) h)
 
 -- the pattern of a value that is no NaN
 pub bits-plain : (x : Float) → T (fits binary64 x) → T (not (isNan x)) → T (not (nanBits binary64 (toBits binary64 x)))

@@ -2,13 +2,33 @@
 // order of totalOrder. Each contract is one equation with a definition of `specs/Float.antt`.
 ghost use mathlib.Core.Path.{_≡_};
 ghost use mathlib.Core.Bool.{false, _||_};
-ghost use lib.Ieee.{isNan, inf};
+ghost use lib.Ieee.{isNan, inf, binary64, toBits, ofBits};
 ghost use Rattle.float.specs.Float.{nextBits, negative, nextUp, nextDown, abs, finite, lesser, greater, before};
 
 pub fn is_nan(x: f64) -> bool
     ensures { λ r. ⌜ r ≡ isNan x ⌝ }
 {
     x != x
+}
+
+// The pattern of x; of a NaN always the quiet one.
+pub fn bits_of(x: f64) -> u64
+    ensures { λ r. ⌜ r ≡ toBits binary64 x ⌝ }
+{
+    if is_nan(x) {
+        return 0x7ff8_0000_0000_0000;
+    }
+    f64::to_bits(x)
+}
+
+// The value of a pattern; a NaN for each pattern of a NaN.
+pub fn float_of(b: u64) -> f64
+    ensures { λ r. ⌜ r ≡ ofBits binary64 b ⌝ }
+{
+    if b % 0x8000_0000_0000_0000 <= 0x7ff0_0000_0000_0000 {
+        return f64::from_bits(b);
+    }
+    0.0 / 0.0
 }
 
 // The pattern after b.

@@ -40,8 +40,12 @@ hullOf p q r s =
 unfoldable pub mulI : Interval → Interval → Interval
 mulI a b = hullOf (mul binary64 (a .lo) (b .lo)) (mul binary64 (a .lo) (b .hi)) (mul binary64 (a .hi) (b .lo)) (mul binary64 (a .hi) (b .hi))
 
+-- low <= x and x <= high
+abbrev pub contains : Interval → Float → Bool
+contains a x = le (a .lo) x && le x (a .hi)
+
 unfoldable pub holdsZero : Interval → Bool
-holdsZero a = le (a .lo) zero && le zero (a .hi)
+holdsZero a = contains a zero
 
 -- from the squares p and q of the two ends: the low end is zero where the interval holds zero, and else the lesser square stepped, not below zero
 unfoldable pub squareOf : Bool → Float → Float → Interval

@@ -3,8 +3,8 @@
 ghost use mathlib.Core.Path.{_≡_};
 ghost use mathlib.Core.Bool.{cond};
 ghost use Rattle.float.specs.Float.{greater};
-ghost use Rattle.interval.specs.Ends.{zero, whole, pointI, outward, addI, subI, hullOf, mulI, holdsZero, squareOf, sqrI, signOf, inverseOf};
-ghost use Rattle.interval.specs.Box.{dotI, differenceI, minorI, crossI};
+ghost use Rattle.interval.specs.Ends.{zero, whole, pointI, outward, addI, subI, hullOf, mulI, contains, holdsZero, squareOf, sqrI, signOf, inverseOf};
+ghost use Rattle.interval.specs.Box.{dotI, dot0, differenceI, residualI, minorI, crossI};
 
 pub struct Interval {
     pub lo: f64,
@@ -81,10 +81,16 @@ pub fn mul(a: Interval, b: Interval) -> Interval
     hull_of(a.lo * b.lo, a.lo * b.hi, a.hi * b.lo, a.hi * b.hi)
 }
 
+pub fn contains(a: Interval, x: f64) -> bool
+    ensures { λ r. ⌜ r ≡ contains a x ⌝ }
+{
+    (a.lo <= x) & (x <= a.hi)
+}
+
 pub fn holds_zero(a: Interval) -> bool
     ensures { λ r. ⌜ r ≡ holdsZero a ⌝ }
 {
-    if a.lo <= 0.0 { 0.0 <= a.hi } else { false }
+    contains(a, 0.0)
 }
 
 // The low end of a square: zero where z, else d, not below zero.
@@ -142,10 +148,33 @@ pub fn dot(a: [Interval; 3], b: [Interval; 3]) -> Interval
     add(add(mul(a[0], b[0]), mul(a[1], b[1])), mul(a[2], b[2]))
 }
 
+// The mesh's dot: the sum starts from the point interval 0.
+pub fn dot_from_zero(a: [Interval; 3], b: [Interval; 3]) -> Interval
+    ensures { λ r. ⌜ r ≡ dot0 a b ⌝ }
+{
+    let first = add(point(0.0), mul(a[0], b[0]));
+    add(add(first, mul(a[1], b[1])), mul(a[2], b[2]))
+}
+
 pub fn difference(a: [Interval; 3], b: [Interval; 3]) -> [Interval; 3]
     ensures { λ r. ⌜ r ≡ differenceI a b ⌝ }
 {
     [sub(a[0], b[0]), sub(a[1], b[1]), sub(a[2], b[2])]
+}
+
+// delta - direction * parameter, component by component.
+pub fn residual(
+    delta: [Interval; 3],
+    direction: [Interval; 3],
+    parameter: Interval,
+) -> [Interval; 3]
+    ensures { λ r. ⌜ r ≡ residualI delta direction parameter ⌝ }
+{
+    [
+        sub(delta[0], mul(direction[0], parameter)),
+        sub(delta[1], mul(direction[1], parameter)),
+        sub(delta[2], mul(direction[2], parameter)),
+    ]
 }
 
 fn minor(p: Interval, q: Interval, r: Interval, s: Interval) -> Interval
