@@ -3,8 +3,9 @@ use interval::Interval;
 use interval::Sign;
 use refusal::Refusal;
 ghost use mathlib.Core.Path.{_≡_};
+ghost use Rattle.refusal.specs.Outcome.{ok, then, unless};
 ghost use Rattle.space.specs.Vector.{subV, addV, scaleV, overV, negV, dotV, minorV, crossV, lengthV, boxOf, fairPrecision, fair, fairPoint, finitePoint};
-ghost use Rattle.space.specs.Frames.{framed, planed, short, hintOn, frameOn, frameAlong, frameOf, planeOf, facePlane, localOf};
+ghost use Rattle.space.specs.Frames.{framed, planed, short, hintOn, frameOn, frameBy, frameAlong, frameUp, frameOf, onFrame, planeOf, facePlane, localOf};
 ghost use Rattle.space.specs.Near.{closenessOf, gapI, nearOf};
 
 // A point; a vector is one too.
@@ -182,35 +183,57 @@ fn frame_on(o: Point3, z: Point3, x: Point3) -> Frame
     Frame { origin: o, x, y, z }
 }
 
+// 5 where a length is short, else the frame.
+fn framed_unless(short: bool, f: Frame) -> Framed
+    ensures { λ r. ⌜ framed r ≡ unless short 5 (ok f) ⌝ }
+{
+    if short {
+        return Framed::Refused(refusal::refuse(5));
+    }
+    Framed::Made(f)
+}
+
+fn frame_by(p: Precision, o: Point3, z: Point3, rest: Point3, l: f64) -> Framed
+    ensures { λ r. ⌜ framed r ≡ frameBy p o z rest l ⌝ }
+{
+    framed_unless(is_short(p, l), frame_on(o, z, over(rest, l)))
+}
+
 fn frame_along(p: Precision, o: Point3, z: Point3, hint: Point3) -> Framed
     ensures { λ r. ⌜ framed r ≡ frameAlong p o z hint ⌝ }
 {
     let rest = hint_on(hint, z);
-    let l = length(rest);
-    if is_short(p, l) {
-        return Framed::Refused(refusal::refuse(5));
-    }
-    Framed::Made(frame_on(o, z, over(rest, l)))
+    frame_by(p, o, z, rest, length(rest))
 }
 
-pub fn frame_of(p: Precision, o: Point3, normal: Point3, hint: Point3) -> Framed
-    ensures { λ r. ⌜ framed r ≡ frameOf p o normal hint ⌝ }
+fn frame_up(p: Precision, o: Point3, normal: Point3, hint: Point3, l: f64) -> Framed
+    ensures { λ r. ⌜ framed r ≡ frameUp p o normal hint l ⌝ }
 {
-    let l = length(normal);
     if is_short(p, l) {
         return Framed::Refused(refusal::refuse(5));
     }
     frame_along(p, o, over(normal, l), hint)
 }
 
-pub fn plane_of(p: Precision, o: Point3, normal: Point3, hint: Point3) -> Planed
-    ensures { λ r. ⌜ planed r ≡ planeOf p o normal hint ⌝ }
+pub fn frame_of(p: Precision, o: Point3, normal: Point3, hint: Point3) -> Framed
+    ensures { λ r. ⌜ framed r ≡ frameOf p o normal hint ⌝ }
 {
-    let made = frame_of(p, o, normal, hint);
+    frame_up(p, o, normal, hint, length(normal))
+}
+
+fn on_frame(made: Framed) -> Planed
+    ensures { λ r. ⌜ planed r ≡ then (framed made) onFrame ⌝ }
+{
     match made {
         Framed::Made(frame) => Planed::Made(Plane { frame }),
         Framed::Refused(r) => Planed::Refused(r),
     }
+}
+
+pub fn plane_of(p: Precision, o: Point3, normal: Point3, hint: Point3) -> Planed
+    ensures { λ r. ⌜ planed r ≡ planeOf p o normal hint ⌝ }
+{
+    on_frame(frame_of(p, o, normal, hint))
 }
 
 // The plane of a face whose first three corners are a, b and c.
@@ -242,7 +265,7 @@ fn gap(a: f64, b: f64) -> Interval
     interval::sqr(interval::sub(interval::point(a), interval::point(b)))
 }
 
-fn closeness(s: Sign) -> Closeness
+fn closeness_of(s: Sign) -> Closeness
     ensures { λ r. ⌜ r ≡ closenessOf s ⌝ }
 {
     match s {
@@ -258,5 +281,5 @@ pub fn near(p: Precision, a: Point3, b: Point3) -> Closeness
 {
     let sum = interval::add(interval::add(gap(a.x, b.x), gap(a.y, b.y)), gap(a.z, b.z));
     let limit = interval::sqr(interval::point(p.local));
-    closeness(interval::sign_of(interval::sub(sum, limit)))
+    closeness_of(interval::sign_of(interval::sub(sum, limit)))
 }
