@@ -1,3 +1,4 @@
 pub mod Vector
 pub mod Frames
 pub mod Near
+pub mod Shapes

@@ -1,0 +1,1 @@
+// Walks over lists and their laws; all of it stands in `specs/`.
