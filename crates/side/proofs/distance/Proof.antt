@@ -1,0 +1,16 @@
+use borrow.Author.Needs.{needs}
+use Rattle.side.specs.Sides.{distanceOf}
+use Rattle.side.proofs.distance.Statement.{statement}
+use Rattle.side.proofs.distance.Tie as tie
+
+pub distance-spec : {M : Type 1} → statement M
+unfolding distanceOf
+distance-spec =
+    tie.close
+    (tie.spec
+    (λ c κs. search needs)
+    (λ c κs. search needs)
+    (λ c κs. search needs)
+    (λ c κs. search needs)
+    (λ c κs. search needs)
+    (λ c. cc))
