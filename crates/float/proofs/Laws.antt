@@ -1,142 +1,114 @@
--- Facts that several proofs of the crate cite. Assumes nothing.
+-- The laws of binary64 that other crates cite: comparisons, nextUp and nextDown in IEEE 754's words, totalOrder below NaN, patterns. Assumes nothing.
 use mathlib.Core.Path.{_≡_, refl, sym, ap, _∙_, subst}
-use mathlib.Core.Bool.{Bool, true, false, not, _&&_, _||_, Bool·beq, cond}
-use Prim.Native.Nat.{ℕ, zero, suc, _+_, _-_, _*_, _/_, _%_, _^_, _≤_, _<_}
+use mathlib.Core.Logic.{_⊎_, inl, inr}
+use mathlib.Core.Bool.{Bool, true, false, not}
+use Prim.Native.Nat.{ℕ, _+_, _*_, _%_, _^_, _≤_, _<_}
+use native.Mathlib.Nat.{lt-trans, lt-irrefl}
 use native.Mathlib.Omega.{arith}
-use borrow.Author.Tests.{lt-leb, le-leb, lt-ltb}
-use lib.Dec.{T, ltb, eqb, leb, eqb-refl, not-T, T-not, ltb→lt, nltb→le, lt→ltb, eqb→eq}
-use lib.IntN.{ℤ}
-use lib.Ieee.{Format, emax, round, units, odd, Float, nan, inf, fin, up, down, prec, hid, low, size, binary64, isNan, ne, eq, nanBits, toBits, ofBits, fits, neg, sub, add, sum}
-use lib.Ieee.Fits.{neg-fits, eq→eqb, round-is}
-use lib.Ieee.Bits.{is-true, is-false, nanBits-above, nanBits-is, ofBits-toBits, toBits-lt}
-use Rattle.float.specs.Float.{infBits, signBit, nextBits, nextUp, negative, finite, abs}
+use borrow.Author.Tests.{lt-ltb, le-ltb}
+use lib.Dec.{T, ltb, ltb→lt}
+use lib.Ieee.{Float, nan, inf, fin, binary64, isNan, neg, lt, eq, le, fits, toBits, ofBits}
+use lib.Ieee.Bits.{is-true, ofBits-toBits, toBits-ofBits, nanBits-is}
+use lib.Ieee.Fits.{inf-fits}
+use Rattle.float.specs.Float.{infBits, signBit, nextBits, nextUp, nextDown, before}
+use Rattle.float.proofs.Facts.{plain}
+use Rattle.float.proofs.Places.{place, side, same, Number, lt-numbers, le-numbers, lt-of, le-of, lt-at, le-at, place-least, place-most, up-number, up-place, down-number, down-place, rank, before-rank, rank-same}
 
--- a value differs from itself exactly if it is a NaN
-pub differs : (x : Float) → ne x x ≡ isNan x
-unfolding ne isNan
-differs nan = refl
-differs (inf true) = refl
-differs (inf false) = refl
-differs (fin true m e) = ap (λ (b : Bool). not (b && true)) (is-true (eqb (m * up e * down e) (m * up e * down e)) (eqb-refl (m * up e * down e)))
-differs (fin false m e) = ap (λ (b : Bool). not (b && true)) (is-true (eqb (m * up e * down e) (m * up e * down e)) (eqb-refl (m * up e * down e)))
+-- a value of the format: every f64 of a program is one
+abbrev pub Held : Float → Type 0
+Held x = T (fits binary64 x)
 
-pub no : {b : Bool} → b ≡ false → T (not b)
-no h = subst (λ (x : Bool). T (not x)) (sym h) tt
-
-pub yes : {b : Bool} → b ≡ true → T b
-yes h = subst (λ (x : Bool). T x) (sym h) tt
-
-pub is-nan : (x : Float) → isNan x ≡ true → x ≡ nan
+infinite : (s : Bool) → Number (inf s)
 unfolding isNan
-is-nan nan h = refl
-is-nan (inf s) h = cc
-is-nan (fin s m e) h = cc
+infinite s = record { held = inf-fits binary64 s; real = tt }
 
--- a pattern is a NaN's exactly if its part below the sign is above the infinity's
-pub plain : (n : ℕ) → n % 0x8000_0000_0000_0000 ≤ 0x7ff0_0000_0000_0000 → T (not (nanBits binary64 n))
-plain n h = subst (λ (b : Bool). T (not b)) (sym (nanBits-above binary64 n)) (not-T (ltb 0x7ff0_0000_0000_0000 (n % 0x8000_0000_0000_0000)) (λ t. clash (ltb→lt 0x7ff0_0000_0000_0000 (n % 0x8000_0000_0000_0000) t)))
+-- ---- the order of < and <=
+pub lt-not : (x y : Float) → Held x → Held y → T (lt x y) → T (le y x) → ⊥
+lt-not x y f g h k = let n = lt-numbers x y f g h in let a = lt-at (n .0) (n .1) h in let b = le-at (n .1) (n .0) k in omega arith
+
+pub lt→le : (x y : Float) → Held x → Held y → T (lt x y) → T (le x y)
+lt→le x y f g h = let n = lt-numbers x y f g h in let a = lt-at (n .0) (n .1) h in le-of (n .0) (n .1) (omega arith)
+
+module _ (x y z : Float) (f : Held x) (g : Held y) (k : Held z) where
+  pub lt-lt : T (lt x y) → T (lt y z) → T (lt x z)
+  lt-lt h l = let n = lt-numbers x y f g h in let m = lt-numbers y z g k l in let a = lt-at (n .0) (n .1) h in let b = lt-at (m .0) (m .1) l in lt-of (n .0) (m .1) (omega arith)
+
+  pub lt-le : T (lt x y) → T (le y z) → T (lt x z)
+  lt-le h l = let n = lt-numbers x y f g h in let m = le-numbers y z g k l in let a = lt-at (n .0) (n .1) h in let b = le-at (m .0) (m .1) l in lt-of (n .0) (m .1) (omega arith)
+
+  pub le-lt : T (le x y) → T (lt y z) → T (lt x z)
+  le-lt h l = let n = le-numbers x y f g h in let m = lt-numbers y z g k l in let a = le-at (n .0) (n .1) h in let b = lt-at (m .0) (m .1) l in lt-of (n .0) (m .1) (omega arith)
+
+  pub le-le : T (le x y) → T (le y z) → T (le x z)
+  le-le h l = let n = le-numbers x y f g h in let m = le-numbers y z g k l in let a = le-at (n .0) (n .1) h in let b = le-at (m .0) (m .1) l in le-of (n .0) (m .1) (omega arith)
+
+-- ---- IEEE 754, 5.3.1: nextUp x is the least value of the format that compares greater than x, and +infinity stays
+-- x < +infinity: x is no NaN and not +infinity
+pub next-up-above : (x : Float) → Held x → T (lt x (inf false)) → T (lt x (nextUp x))
+next-up-above x f h =
+    let a = lt-numbers x (inf false) f (inf-fits binary64 false) h .0 in
+    let e : place (nextUp x) ≡ place x + 1 = up-place a (lt-at a (infinite false) h) in
+    lt-of a (up-number a) (omega arith)
+
+pub next-up-least : (x y : Float) → Held x → Held y → T (lt x y) → T (le (nextUp x) y)
+next-up-least x y f g h =
+    let n = lt-numbers x y f g h in
+    let l : place x < place y = lt-at (n .0) (n .1) h in
+    let m : place y ≤ place (inf false) = place-most (n .1) in
+    let e : place (nextUp x) ≡ place x + 1 = up-place (n .0) (omega arith) in
+    le-of (up-number (n .0)) (n .1) (omega arith)
+
+pub next-up-top : nextUp (inf false) ≡ inf false
+unfolding nextUp nextBits isNan toBits ofBits
+next-up-top = refl
+
+-- ---- and nextDown x is the greatest that compares less, and -infinity stays
+pub next-down-below : (x : Float) → Held x → T (lt (inf true) x) → T (lt (nextDown x) x)
+next-down-below x f h =
+    let a = lt-numbers (inf true) x (inf-fits binary64 true) f h .1 in
+    let e : place (nextDown x) + 1 ≡ place x = down-place a (lt-at (infinite true) a h) in
+    lt-of (down-number a) a (omega arith)
+
+pub next-down-greatest : (x y : Float) → Held x → Held y → T (lt y x) → T (le y (nextDown x))
+next-down-greatest x y f g h =
+    let n = lt-numbers y x g f h in
+    let l : place y < place x = lt-at (n .0) (n .1) h in
+    let m : place (inf true) ≤ place y = place-least (n .0) in
+    let e : place (nextDown x) + 1 ≡ place x = down-place (n .1) (omega arith) in
+    le-of (n .0) (down-number (n .1)) (omega arith)
+
+pub next-down-bottom : nextDown (inf true) ≡ inf true
+unfolding nextDown neg nextUp nextBits isNan toBits ofBits
+next-down-bottom = refl
+
+-- ---- IEEE 754, 5.10: totalOrder, made strict, of values that are no NaN
+pub before-irreflexive : (x : Float) → Number x → before x x ≡ false
+before-irreflexive x a = before-rank a a ∙ le-ltb (rank x) (rank x) (omega arith)
+
+pub before-transitive : (x y z : Float) → Number x → Number y → Number z → T (before x y) → T (before y z) → T (before x z)
+before-transitive x y z a b c h k =
+    let l = ltb→lt (rank x) (rank y) (subst T (before-rank a b) h) in
+    let m = ltb→lt (rank y) (rank z) (subst T (before-rank b c) k) in
+    subst T (sym (before-rank a c ∙ lt-ltb (rank x) (rank z) (lt-trans l m))) tt
+
+-- of two different values, which are two with different patterns, one is before the other
+pub before-total : (x y : Float) → Number x → Number y → (x ≡ y → ⊥) → T (before x y) ⊎ T (before y x)
+before-total x y a b n = elim (side (rank x) (rank y)) [
+  | inl l ↦ inl (subst T (sym (before-rank a b ∙ lt-ltb (rank x) (rank y) l)) tt)
+  | inr l ↦ inr (subst T (sym (before-rank b a ∙ lt-ltb (rank y) (rank x) (strict l))) tt)
+]
   where
-    clash : 0x7ff0_0000_0000_0000 < n % 0x8000_0000_0000_0000 → ⊥
-    clash k = omega arith
+    strict : rank y ≤ rank x → rank y < rank x
+    strict l = elim (same (rank x) (rank y)) [ inl e ↦ absurd (n (rank-same a b e)) | inr d ↦ omega arith ]
 
-pub plain-back : (n : ℕ) → T (not (nanBits binary64 n)) → n % 0x8000_0000_0000_0000 ≤ 0x7ff0_0000_0000_0000
-plain-back n h = nltb→le 0x7ff0_0000_0000_0000 (n % 0x8000_0000_0000_0000) (subst (λ (b : Bool). T (not b)) (nanBits-above binary64 n) h)
+pub before-zeros : before (ofBits binary64 signBit) (ofBits binary64 0) ≡ true
+unfolding ofBits lt eq
+before-zeros = refl
 
-pub beyond : (n : ℕ) → 0x7ff0_0000_0000_0000 < n % 0x8000_0000_0000_0000 → ofBits binary64 n ≡ nan
-beyond n h = is-nan (ofBits binary64 n) (sym (nanBits-is binary64 n) ∙ nanBits-above binary64 n ∙ lt-ltb 0x7ff0_0000_0000_0000 (n % 0x8000_0000_0000_0000) h)
+-- ---- patterns: the contracts of bits_of and float_of are `toBits binary64` and `ofBits binary64`
+pub float-of-bits : (x : Float) → Held x → ofBits binary64 (toBits binary64 x) ≡ x
+float-of-bits x f = ofBits-toBits binary64 x f
 
--- the pattern of a value that is no NaN
-pub bits-plain : (x : Float) → T (fits binary64 x) → T (not (isNan x)) → T (not (nanBits binary64 (toBits binary64 x)))
-bits-plain x f h = subst (λ (b : Bool). T (not b)) (sym (nanBits-is binary64 (toBits binary64 x) ∙ ap isNan (ofBits-toBits binary64 x f))) h
-
--- the sign is the top bit
-pub sign-bit : (x : Float) → T (fits binary64 x) → T (not (isNan x)) → leb 0x8000_0000_0000_0000 (toBits binary64 x) ≡ negative x
-unfolding toBits isNan
-sign-bit nan f h = absurd h
-sign-bit (inf true) f h = refl
-sign-bit (inf false) f h = refl
-sign-bit (fin true m e) f h = le-leb 0x8000_0000_0000_0000 (toBits binary64 (fin true m e)) (omega arith)
-sign-bit (fin false m e) f h =
-    let k : toBits binary64 (fin true m e) < 2 * 0x8000_0000_0000_0000 = toBits-lt binary64 (fin true m e) (unfold neg in neg-fits binary64 (fin false m e) f) in
-    lt-leb 0x8000_0000_0000_0000 (toBits binary64 (fin false m e)) (omega arith)
-
--- the step of a pattern of 64 bits that is no NaN's gives none
-pub step-plain : (n : ℕ) → n < 2 * 0x8000_0000_0000_0000 → n % 0x8000_0000_0000_0000 ≤ 0x7ff0_0000_0000_0000 → nextBits n % 0x8000_0000_0000_0000 ≤ 0x7ff0_0000_0000_0000
-unfolding nextBits
-step-plain n w h = go (ltb n infBits) (ltb→lt n infBits) (nltb→le n infBits) (eqb n infBits) (eqb→eq n infBits) (λ t e. T-not (eqb n infBits) t (eq→eqb e)) (eqb n signBit) (λ t e. T-not (eqb n signBit) t (eq→eqb e))
-  where
-    go : (a : Bool) → (T a → n < infBits) → (T (not a) → infBits ≤ n) → (b : Bool) → (T b → n ≡ infBits) → (T (not b) → n ≡ infBits → ⊥) → (d : Bool) → (T (not d) → n ≡ signBit → ⊥)
-        → cond a (n + 1) (cond b n (cond d 1 (n - 1))) % 0x8000_0000_0000_0000 ≤ 0x7ff0_0000_0000_0000
-    go true p q b r s d t = let k = p tt in omega arith
-    go false p q true r s d t = let k = r tt in omega arith
-    go false p q false r s true t = omega arith
-    go false p q false r s false t = let k = q tt in let l : n ≡ signBit → ⊥ = t tt in omega arith
-
-pub abs-negative : (x : Float) → negative x ≡ true → neg x ≡ abs x
-unfolding neg
-abs-negative nan h = cc
-abs-negative (inf true) h = refl
-abs-negative (inf false) h = cc
-abs-negative (fin true m e) h = refl
-abs-negative (fin false m e) h = cc
-
-pub abs-other : (x : Float) → negative x ≡ false → x ≡ abs x
-abs-other nan h = refl
-abs-other (inf true) h = cc
-abs-other (inf false) h = refl
-abs-other (fin true m e) h = cc
-abs-other (fin false m e) h = refl
-
-pub nan-negative : (x : Float) → isNan x ≡ true → negative x ≡ false
-unfolding isNan
-nan-negative nan h = refl
-nan-negative (inf s) h = cc
-nan-negative (fin s m e) h = cc
-
-pub next-nan : (x : Float) → isNan x ≡ true → x ≡ nextUp x
-unfolding nextUp
-next-nan x h = is-nan x h ∙ sym (ap (λ (b : Bool). cond b nan (ofBits binary64 (nextBits (toBits binary64 x)))) h)
-
-pub next-step : (x : Float) → isNan x ≡ false → ofBits binary64 (nextBits (toBits binary64 x)) ≡ nextUp x
-unfolding nextUp
-next-step x h = sym (ap (λ (b : Bool). cond b nan (ofBits binary64 (nextBits (toBits binary64 x)))) h)
-
-pub next-plain : (x : Float) → T (fits binary64 x) → isNan x ≡ false → T (not (nanBits binary64 (nextBits (toBits binary64 x))))
-next-plain x f h = plain (nextBits (toBits binary64 x)) (step-plain (toBits binary64 x) (toBits-lt binary64 x f) (plain-back (toBits binary64 x) (bits-plain x f (no h))))
-
-same : (x : Float) → eq x x ≡ not (isNan x)
-unfolding eq isNan
-same nan = refl
-same (inf true) = refl
-same (inf false) = refl
-same (fin true m e) = ap (λ (b : Bool). b && true) (is-true (eqb (m * up e * down e) (m * up e * down e)) (eqb-refl (m * up e * down e)))
-same (fin false m e) = ap (λ (b : Bool). b && true) (is-true (eqb (m * up e * down e) (m * up e * down e)) (eqb-refl (m * up e * down e)))
-
-pick : (b : Bool) (x y : Float) → isNan x ≡ false → isNan y ≡ false → isNan (cond b x y) ≡ false
-pick true x y h k = h
-pick false x y h k = k
-
-odd-no-nan : (d : ℕ) (s : Bool) (q k l : ℕ) → isNan (odd d s q k l) ≡ false
-unfolding odd isNan
-odd-no-nan d s zero k l = refl
-odd-no-nan d s (suc q) k l = refl
-
--- rounding gives no NaN
-units-no-nan : (f : Format) (s : Bool) (q k : ℕ) → isNan (units f s q k) ≡ false
-unfolding units
-units-no-nan f s q k = pick (ltb (q * 2 ^ k) (2 ^ (low f + suc (emax f)))) (odd (suc (prec f)) s q k (low f)) (inf s) (odd-no-nan (suc (prec f)) s q k (low f)) (unfold isNan in refl)
-
-pub round-no-nan : (f : Format) (s : Bool) (a c : ℕ) → isNan (round f s a c) ≡ false
-round-no-nan f s a c = ap isNan (round-is f s a c) ∙ units-no-nan f s _ _
-
-sum-no-nan : (f : Format) (s : Bool) (a : ℕ) (t : Bool) (b c : ℕ) → isNan (sum f s a t b c) ≡ false
-unfolding sum
-sum-no-nan f s a t b c = pick (Bool·beq s t) _ _ (round-no-nan f s (a + b) c) (pick (ltb a b) _ _ (round-no-nan f t (b - a) c) (round-no-nan f (s && ltb b a) (a - b) c))
-
--- a difference with itself is 0, or a NaN where there is no finite number
-pub itself : (x : Float) → eq (sub binary64 x x) (sub binary64 x x) ≡ finite x
-unfolding eq sub
-itself nan = refl
-itself (inf true) = refl
-itself (inf false) = refl
-itself (fin s m e) = same _ ∙ ap not (sum-no-nan binary64 s (m * up e * down e) (not s) (m * up e * down e) (down e * down e))
+-- a pattern that is no NaN's
+pub bits-of-float : (b : ℕ) → b < 2 ^ 64 → b % signBit ≤ infBits → toBits binary64 (ofBits binary64 b) ≡ b
+bits-of-float b w h = toBits-ofBits binary64 b w (subst (λ (t : Bool). T (not t)) (nanBits-is binary64 b) (plain b h))

@@ -16,7 +16,7 @@ use lib.Ieee.Exact.{HasValue, odd-sign, units-val, round-exact}
 use lib.Ieee.Order.{drop, kept, round-mono}
 use lib.Ieee.Scale.{grid, overflow}
 use Rattle.float.specs.Float.{infBits, signBit, nextBits, nextUp, nextDown, negative, finite}
-use Rattle.float.proofs.Laws.{plain-back, bits-plain, sign-bit, next-step}
+use Rattle.float.proofs.Facts.{plain-back, bits-plain, sign-bit, next-step}
 
 -- by the exponent's field and the digits
 abbrev pub scaled : ℕ → ℕ → ℕ

@@ -1,5 +1,5 @@
 use mathlib.Core.Path.{sym, _∙_, subst}
-use Rattle.float.proofs.Laws.{abs-negative, abs-other}
+use Rattle.float.proofs.Facts.{abs-negative, abs-other}
 use borrow.Author.Needs.{needs}
 use Rattle.float.proofs.abs.Statement.{statement}
 use Rattle.float.proofs.abs.Tie as tie

@@ -1,6 +1,6 @@
 use mathlib.Core.Path.{sym}
 use lib.Ieee.{div, ofBits}
-use Rattle.float.proofs.Laws.{plain, beyond}
+use Rattle.float.proofs.Facts.{plain, beyond}
 use borrow.Author.Needs.{needs}
 use Rattle.float.proofs.float_of.Statement.{statement}
 use Rattle.float.proofs.float_of.Tie as tie

@@ -1,4 +1,4 @@
-use Rattle.float.proofs.Laws.{itself}
+use Rattle.float.proofs.Facts.{itself}
 use Rattle.float.proofs.is_finite.Statement.{statement}
 use Rattle.float.proofs.is_finite.Tie as tie
 use Rattle.float.proofs.is_finite.Reads as reads

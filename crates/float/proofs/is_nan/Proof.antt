@@ -1,4 +1,4 @@
-use Rattle.float.proofs.Laws.{differs}
+use Rattle.float.proofs.Facts.{differs}
 use Rattle.float.proofs.is_nan.Statement.{statement}
 use Rattle.float.proofs.is_nan.Tie as tie
 use Rattle.float.proofs.is_nan.Reads as reads

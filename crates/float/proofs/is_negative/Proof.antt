@@ -1,5 +1,5 @@
 use mathlib.Core.Path.{sym, _∙_, subst}
-use Rattle.float.proofs.Laws.{nan-negative, sign-bit, yes, no}
+use Rattle.float.proofs.Facts.{nan-negative, sign-bit, yes, no}
 use borrow.Author.Needs.{needs}
 use Rattle.float.proofs.is_negative.Statement.{statement}
 use Rattle.float.proofs.is_negative.Tie as tie

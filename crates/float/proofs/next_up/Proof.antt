@@ -3,7 +3,7 @@ use Prim.Native.Nat.{ℕ}
 use mathlib.Core.Bool.{not}
 use lib.Dec.{T}
 use lib.Ieee.{binary64, nanBits, ofBits}
-use Rattle.float.proofs.Laws.{next-nan, next-step, next-plain, yes, no}
+use Rattle.float.proofs.Facts.{next-nan, next-step, next-plain, yes, no}
 use borrow.Author.Needs.{needs}
 use Rattle.float.proofs.next_up.Statement.{statement}
 use Rattle.float.proofs.next_up.Tie as tie
