@@ -1,0 +1,137 @@
+//! Floats from the bits, square root, intervals, exact orientation, near.
+use crate::bits::{all, bits};
+use crate::report::Report;
+use gen::{leaves as ask, Random};
+use oracle::leaf;
+use oracle::{Interval, Sign, Tolerances};
+use port::leaves::{self as ours, Ends};
+
+/// The questions of a leaf that costs little, and of one that costs more.
+const MANY: usize = 1_000_000;
+
+fn sign_code(sign: Option<Sign>) -> u64 {
+    match sign {
+        Some(Sign::Zero) => 0,
+        Some(Sign::Positive) => 1,
+        Some(Sign::Negative) => 2,
+        None => 3,
+    }
+}
+
+fn ends(i: Interval) -> [f64; 2] {
+    [i.lo(), i.hi()]
+}
+
+fn interval(a: &[f64; 2]) -> Interval {
+    Interval::ends(a[0], a[1])
+}
+
+/// The bits that a NaN may show are one pattern; any other float keeps its own.
+fn pattern(random: &mut Random) -> u64 {
+    let x = ask::float(random);
+    if random.coin() {
+        random.bits()
+    } else {
+        x.to_bits()
+    }
+}
+
+pub fn compare(report: &mut Report, seed: u64, scale: usize) {
+    floats(report, seed, scale);
+    intervals(report, seed + 1, scale);
+    points(report, seed + 2, scale);
+}
+
+fn floats(report: &mut Report, seed: u64, scale: usize) {
+    let mut random = Random::new(seed);
+    let mut one = |n: usize| -> Vec<f64> { (0..n * scale).map(|_| ask::float(&mut random)).collect() };
+    report.ask("next_up", one(MANY), |x| bits(ours::next_up(*x)), |x| bits(leaf::next_up(*x)));
+    report.ask("next_down", one(MANY), |x| bits(ours::next_down(*x)), |x| bits(leaf::next_down(*x)));
+    report.ask("abs", one(MANY), |x| bits(ours::abs(*x)), |x| bits(x.abs()));
+    report.ask("is_finite", one(MANY), |x| ours::is_finite(*x), |x| x.is_finite());
+    report.ask("bits_of", one(MANY), |x| ours::bits_of(*x), |x| bits(*x));
+    report.ask("square_root", one(MANY), |x| bits(ours::square_root(*x)), |x| bits(leaf::square_root(*x)));
+    let mut random = Random::new(seed + 10);
+    let patterns: Vec<_> = (0..MANY * scale).map(|_| pattern(&mut random)).collect();
+    report.ask("float_of", patterns, |b| bits(ours::float_of(*b)), |b| bits(f64::from_bits(*b)));
+    let mut two = || -> Vec<[f64; 2]> { (0..MANY * scale).map(|_| pair(&mut random)).collect() };
+    report.ask("lesser", two(), |p| bits(ours::lesser(p[0], p[1])), |p| bits(leaf::lesser(p[0], p[1])));
+    report.ask("greater", two(), |p| bits(ours::greater(p[0], p[1])), |p| bits(leaf::greater(p[0], p[1])));
+    let ordered: Vec<_> = two().into_iter().filter(|p| !p.iter().any(|x| x.is_nan())).collect();
+    report.ask("before", ordered, |p| ours::before(p[0], p[1]), |p| leaf::before(p[0], p[1]));
+}
+
+/// Two numbers, often equal, opposite or neighbours.
+fn pair(random: &mut Random) -> [f64; 2] {
+    let x = ask::float(random);
+    match random.below(4) {
+        0 => [x, x],
+        1 => [x, -x],
+        2 => [x, ask::stepped(random, x, 2)],
+        _ => [x, ask::float(random)],
+    }
+}
+
+fn intervals(report: &mut Report, seed: u64, scale: usize) {
+    let mut random = Random::new(seed);
+    let mut one = || -> Vec<[f64; 2]> { (0..MANY * scale).map(|_| ask::interval(&mut random)).collect() };
+    let mut out = Ends::new();
+    report.ask("sqr", one(), |a| all(out.sqr(*a)), |a| all(ends(interval(a).sqr())));
+    report.ask("sign", one(), |a| ours::sign(*a), |a| sign_code(interval(a).sign()));
+    report.ask("holds_zero", one(), |a| ours::holds_zero(*a), |a| interval(a).contains(0.0));
+    report.ask(
+        "reciprocal",
+        one(),
+        |a| out.reciprocal(*a).map(all),
+        |a| leaf::reciprocal(interval(a)).ok().map(|i| all(ends(i))),
+    );
+    let mut random = Random::new(seed + 10);
+    let mut two = || -> Vec<[[f64; 2]; 2]> {
+        let pair = |r: &mut Random| [ask::interval(r), ask::interval(r)];
+        (0..MANY * scale).map(|_| pair(&mut random)).collect()
+    };
+    report.ask("add", two(), |p| all(out.add(p[0], p[1])), |p| all(ends(interval(&p[0]) + interval(&p[1]))));
+    report.ask("sub", two(), |p| all(out.sub(p[0], p[1])), |p| all(ends(interval(&p[0]) - interval(&p[1]))));
+    report.ask("mul", two(), |p| all(out.mul(p[0], p[1])), |p| all(ends(interval(&p[0]) * interval(&p[1]))));
+    let few = two().into_iter().take(100);
+    report.ask("short slices left alone", few, |p| Ends::leaves_short_alone(p[0], p[1]), |_| true);
+}
+
+fn points(report: &mut Report, seed: u64, scale: usize) {
+    let mut random = Random::new(seed);
+    let turns: Vec<_> = (0..MANY * scale).map(|_| turn(&mut random)).collect();
+    report.ask(
+        "orient2d",
+        turns,
+        |t| ours::orient2d(t[0], t[1], t[2]),
+        |t| sign_code(leaf::orient2d(t[0], t[1], t[2])),
+    );
+    let vectors: Vec<_> = (0..MANY * scale).map(|_| [(); 3].map(|()| ask::float(&mut random))).collect();
+    report.ask("length", vectors, |v| bits(ours::length(*v)), |v| bits(length(v)));
+    let near: Vec<_> = (0..MANY * scale).map(|_| near(&mut random)).collect();
+    report.ask(
+        "near",
+        near,
+        |(t, q)| ours::near(q[0], q[1], t.local),
+        |(t, q)| leaf::near(t, &q[0], &q[1]).map_or_else(u64::from, u64::from),
+    );
+}
+
+/// Mostly finite; a number that is not gives none.
+fn turn(random: &mut Random) -> [[f64; 2]; 3] {
+    let mut t = ask::turn(random);
+    if random.below(16) == 0 {
+        t[random.below(3)][random.below(2)] = ask::float(random);
+    }
+    t
+}
+
+fn length(v: &[f64; 3]) -> f64 {
+    ((v[0] * v[0] + v[1] * v[1]) + v[2] * v[2]).sqrt()
+}
+
+fn near(random: &mut Random) -> (Tolerances, [[f64; 3]; 2]) {
+    let t = gen::jobs::tolerances(random);
+    let q = ask::near(random, &t);
+    (Tolerances { linear: t.linear, local: t.local }, q)
+}
