@@ -154,3 +154,31 @@ fn faces_up_to_64_and_thin_walls() {
     let bodies = oracle::hollow_bodies(&cell, 0.5, Lent::UNBOUNDED).expect("an answer");
     assert_eq!(shells(&bodies), [[6, 6]]);
 }
+
+/// The shells that `solidjob` prints for each file of jobs/.
+const PRINTED: [(&str, &str); 7] = [
+    ("p7.job", "body 1 shells 1\nshell 1 outward facets 6\n"),
+    ("p8.job", "body 1 shells 1\nshell 1 outward facets 24\n"),
+    ("p9.job", "body 1 shells 1\nshell 1 outward facets 42\n"),
+    (
+        "p10.job",
+        "body 1 shells 2\nshell 1 outward facets 54\nshell 2 inward facets 6\n",
+    ),
+    (
+        "p11.job",
+        "body 1 shells 1\nshell 1 outward facets 6\nbody 2 shells 1\nshell 1 outward facets 6\n",
+    ),
+    ("p12.job", "body 1 shells 1\nshell 1 outward facets 10\n"),
+    ("p12-intersection.job", ""),
+];
+
+#[test]
+fn the_files_of_jobs() {
+    let directory = std::path::Path::new(env!("CARGO_MANIFEST_DIR")).join("../../jobs");
+    for ((name, job), (same, shells)) in gen::pairs::files().into_iter().zip(PRINTED) {
+        assert_eq!(name, same);
+        let bytes = std::fs::read(directory.join(name)).expect("a job file");
+        assert_eq!(bytes, job.bytes(), "{name}");
+        assert_eq!(oracle::solidjob(&bytes), format!("answer 0\n{shells}"));
+    }
+}

@@ -75,13 +75,9 @@ fn one_for_more_than_32768_bytes() {
     assert_eq!(fused_length(32_769), 1);
 }
 
-/// A job in order of just this many bytes: it has empty faces, which count one byte each.
+/// The refusal of a job in order of just this many bytes.
 fn fused_length(length: usize) -> u32 {
-    let mut records = box_job().records();
-    let end = records.len() - 2;
-    let missing = length - join(&records).len();
-    records.splice(end..end, vec![gen::bytes::Record::face(); missing]);
-    let bytes = join(&records);
+    let bytes = gen::damage::sized(&box_job(), length);
     assert_eq!(bytes.len(), length);
     refused(oracle::fuse(&bytes, FREE))
 }
@@ -209,7 +205,7 @@ fn eleven_for_cells() {
             planes.push(leaf::frame(&T, &origin, &unit(axis), &unit(axis + 1)).expect("a frame"));
         }
     }
-    let split = |n: usize| leaf::split_cells(&T, None, &[cell.clone()], &planes[..n]);
+    let split = |n: usize| leaf::split_cells(&T, None, std::slice::from_ref(&cell), &planes[..n]);
     assert_eq!(split(21).expect("cells").len(), 9 * 9 * 6);
     assert_eq!(refused(split(22)), 11);
 }
