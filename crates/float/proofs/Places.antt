@@ -372,6 +372,15 @@ neg-real (fin s m e) h = tt
 pub neg-number : {x : Float} → Number x → Number (neg x)
 neg-number {x} a = record { held = neg-fits binary64 x (a .held); real = neg-real x (a .real) }
 
+real-neg : (x : Float) → T (not (isNan (neg x))) → T (not (isNan x))
+unfolding neg isNan
+real-neg nan h = h
+real-neg (inf s) h = tt
+real-neg (fin s m e) h = tt
+
+pub number-neg : (x : Float) → T (fits binary64 x) → Number (neg x) → Number x
+number-neg x f a = record { held = f; real = real-neg x (a .real) }
+
 tail : (s : Bool) (m : ℕ) (e : ℤ) → toBits binary64 (fin (not s) m e) + cond s signBit 0 ≡ toBits binary64 (fin s m e) + cond (not s) signBit 0
 unfolding toBits
 tail true m e = omega arith

@@ -19,7 +19,7 @@ use Rattle.float.specs.Exact.{plus, minus}
 use Rattle.float.proofs.Facts.{no, round-no-nan}
 use Rattle.float.proofs.Steps.{val, placed, placed-val}
 use Rattle.float.proofs.Rounded.{Rounded, Added, added, other, round-neg, neg-finite, neg-plus}
-use Rattle.float.proofs.Places.{place, placeOf, spot, fin-place, inf-place, place-least, place-most, kind, within, Number, le-of, le-at, lt-of, lt-at, lt-numbers, neg-number, neg-place, place-units}
+use Rattle.float.proofs.Places.{place, placeOf, spot, fin-place, inf-place, place-least, place-most, kind, within, Number, le-of, le-at, lt-of, lt-at, lt-numbers, neg-number, number-neg, neg-place, positive-place, negative-place, side, place-units}
 
 rounds : (s : Bool) (a c : ℕ) → Number (round binary64 s a c)
 rounds s a c = record { held = round-fits binary64 s a c; real = no (round-no-nan binary64 s a c) }
@@ -264,6 +264,28 @@ module _ {x y : Float} (a : Number x) (b : Number y) (r : T (not (isNan (add bin
           let w0 = w .0 in
           let w1 = w .1 in
           not-below (plus x + plus y) (minus x + minus y) (A .rounded) (A .over-pos) (omega arith)
+
+pub sub-positive : (x y : Float) → T (fits binary64 x) → T (fits binary64 y) → T (lt (ofBits binary64 0) (sub binary64 x y)) → T (lt y x)
+unfolding sub
+sub-positive x y f g h =
+    let s = positive-place (add binary64 x (neg y)) (add-fits binary64 x (neg y)) h in
+    let N = add-numbers x (neg y) f (neg-fits binary64 y g) (s .0 .real) in
+    let b = number-neg y g (N .1 .0) in
+    let k = neg-place b in
+    lt-of b (N .0) (elim (side (place y) (place x)) [
+      | inl l ↦ l
+      | inr l ↦ let u = add-not-above (N .0) (N .1 .0) (s .0 .real) (omega arith) in let v = s .1 in absurd (omega arith)
+    ])
+
+pub add-negative : (x y : Float) → T (fits binary64 x) → T (fits binary64 y) → T (lt (add binary64 x y) (ofBits binary64 0)) → T (lt x (neg y))
+add-negative x y f g h =
+    let s = negative-place (add binary64 x y) (add-fits binary64 x y) h in
+    let N = add-numbers x y f g (s .0 .real) in
+    let k = neg-place (N .1 .0) in
+    lt-of (N .0) (neg-number (N .1 .0)) (elim (side (place x) (place (neg y))) [
+      | inl l ↦ l
+      | inr l ↦ let u = add-not-below (N .0) (N .1 .0) (s .0 .real) (omega arith) in let v = s .1 in absurd (omega arith)
+    ])
 
 -- ---- two numbers on one side of zero: their sum is no NaN, and two places or more from zero
 one-place : place (ofBits binary64 1) ≡ signBit + 1
