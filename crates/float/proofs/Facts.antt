@@ -72,6 +72,20 @@ step-plain n w h = go (ltb n infBits) (ltb→lt n infBits) (nltb→le n infBits)
     go false p q false r s true t = omega arith
     go false p q false r s false t = let k = q tt in let l : n ≡ signBit → ⊥ = t tt in omega arith
 
+-- without a branch on the sign
+pub step-is : (n : ℕ) → n < 2 * signBit → n % signBit ≤ infBits → cond (eqb n infBits) n (cond (eqb n signBit) 1 (n - 2 * (n / signBit) + 1)) ≡ nextBits n
+unfolding nextBits
+step-is n w h = go (ltb n infBits) (ltb→lt n infBits) (nltb→le n infBits) (eqb n infBits) (eqb→eq n infBits) (λ t e. T-not (eqb n infBits) t (eq→eqb e)) (eqb n signBit) (eqb→eq n signBit)
+  where
+    go : (a : Bool) → (T a → n < infBits) → (T (not a) → infBits ≤ n) → (b : Bool) → (T b → n ≡ infBits) → (T (not b) → n ≡ infBits → ⊥) → (d : Bool) → (T d → n ≡ signBit)
+        → cond b n (cond d 1 (n - 2 * (n / signBit) + 1)) ≡ cond a (n + 1) (cond b n (cond d 1 (n - 1)))
+    go true p q true r s d t = let k = p tt in let l = r tt in absurd (omega arith)
+    go true p q false r s true t = let k = p tt in let l = t tt in absurd (omega arith)
+    go true p q false r s false t = let k = p tt in omega arith
+    go false p q true r s d t = refl
+    go false p q false r s true t = refl
+    go false p q false r s false t = let k = q tt in let l : n ≡ infBits → ⊥ = s tt in omega arith
+
 pub abs-negative : (x : Float) → negative x ≡ true → neg x ≡ abs x
 unfolding neg
 abs-negative nan h = cc

@@ -13,9 +13,11 @@ use lib.Ieee.{Float, nan, inf, fin, binary64, up, down, below, level, isNan, lt,
 use lib.Ieee.Fits.{down-pos, eq→eqb, neg-fits}
 use lib.Ieee.Bits.{is-false, nanBits-is, ofBits-fits, toBits-ofBits, toBits-lt, ofBits-toBits}
 use lib.Ieee.Exact.{HasValue}
-use Rattle.float.specs.Float.{infBits, signBit, nextBits, nextUp, nextDown, negative, before}
+use Rattle.float.specs.Float.{infBits, signBit, nextBits, nextUp, nextDown, negative, finite, before}
+use Rattle.float.specs.Exact.{plus, minus}
 use Rattle.float.proofs.Facts.{plain-back, bits-plain, sign-bit, next-step, next-plain}
 use Rattle.float.proofs.Steps.{val, val-mono, Placed, placed, placed-val}
+use Rattle.float.proofs.Rounds.{plus-of, minus-of}
 
 -- by the sign and the pattern below it
 abbrev pub spot : Bool → ℕ → ℕ
@@ -370,6 +372,15 @@ neg-real (fin s m e) h = tt
 pub neg-number : {x : Float} → Number x → Number (neg x)
 neg-number {x} a = record { held = neg-fits binary64 x (a .held); real = neg-real x (a .real) }
 
+real-neg : (x : Float) → T (not (isNan (neg x))) → T (not (isNan x))
+unfolding neg isNan
+real-neg nan h = h
+real-neg (inf s) h = tt
+real-neg (fin s m e) h = tt
+
+pub number-neg : (x : Float) → T (fits binary64 x) → Number (neg x) → Number x
+number-neg x f a = record { held = f; real = real-neg x (a .real) }
+
 tail : (s : Bool) (m : ℕ) (e : ℤ) → toBits binary64 (fin (not s) m e) + cond s signBit 0 ≡ toBits binary64 (fin s m e) + cond (not s) signBit 0
 unfolding toBits
 tail true m e = omega arith
@@ -462,3 +473,78 @@ rank-same {x} {y} a b h =
         odd : (x y : ℕ) → 2 * x + 1 ≡ 2 * y + 0 → ⊥
         odd x y e = omega arith
     go n m false false u v p q h = let k = simp (p, q) at h in omega arith
+
+-- ---- a finite value in units
+own : (s : Bool) (m : ℕ) (e : ℤ) (f : T (fits binary64 (fin s m e))) → (plus (fin s m e) ≡ cond s 0 (val (placed s m e f .at))) × (minus (fin s m e) ≡ cond s (val (placed s m e f .at)) 0)
+own true m e f = let w = minus-of (fin true m e) (val (placed true m e f .at)) (placed-val f (placed true m e f)) in (w .1, w .0)
+own false m e f = plus-of (fin false m e) (val (placed false m e f .at)) (placed-val f (placed false m e f))
+
+spot-units : (s t : Bool) (i j : ℕ) → i < infBits → j < infBits → spot s i ≤ spot t j → cond s 0 (val i) + cond t (val j) 0 ≤ cond t 0 (val j) + cond s (val i) 0
+spot-units false false i j k l h = let v = val-le i j (omega arith) in omega arith
+spot-units true true i j k l h = let v = val-le j i (omega arith) in omega arith
+spot-units true false i j k l h = omega arith
+spot-units false true i j k l h = let u = ap val (zero-i i j k l h) in let v = ap val (zero-j i j k l h) in omega arith
+  where
+    zero-i : (i j : ℕ) → i < infBits → j < infBits → signBit + i ≤ signBit - j → i ≡ 0
+    zero-i i j k l h = omega arith
+
+    zero-j : (i j : ℕ) → i < infBits → j < infBits → signBit + i ≤ signBit - j → j ≡ 0
+    zero-j i j k l h = omega arith
+
+pub place-units : (x y : Float) → T (fits binary64 x) → T (fits binary64 y) → T (finite x) → T (finite y) → place x ≤ place y → plus x + minus y ≤ plus y + minus x
+place-units (fin s m e) (fin t n d) f g k l h =
+    let p = placed s m e f in
+    let q = placed t n d g in
+    let a = own s m e f in
+    let b = own t n d g in
+    simp (a .0, a .1, b .0, b .1) (spot-units s t (p .at) (q .at) (p .inside) (q .inside) (subst (λ (z : ℕ). z ≤ spot t (q .at)) (fin-place p) (subst (λ (z : ℕ). place (fin s m e) ≤ z) (fin-place q) h)))
+place-units nan y f g k l h = absurd k
+place-units (inf s) y f g k l h = absurd k
+place-units (fin s m e) nan f g k l h = absurd l
+place-units (fin s m e) (inf t) f g k l h = absurd l
+
+-- ---- zero
+pub zero-number : Number (ofBits binary64 0)
+unfolding isNan ofBits
+zero-number = record { held = ofBits-fits binary64 0; real = tt }
+
+pub zero-place : place (ofBits binary64 0) ≡ signBit
+unfolding place placeOf toBits ofBits
+zero-place = refl
+
+pub positive-place : (x : Float) → T (fits binary64 x) → T (lt (ofBits binary64 0) x) → Number x × (signBit < place x)
+positive-place x f h = let b = lt-numbers (ofBits binary64 0) x (zero-number .held) f h .1 in let l = lt-at zero-number b h in let e = zero-place in (b, omega arith)
+
+pub negative-place : (x : Float) → T (fits binary64 x) → T (lt x (ofBits binary64 0)) → Number x × (place x < signBit)
+negative-place x f h = let b = lt-numbers x (ofBits binary64 0) f (zero-number .held) h .0 in let l = lt-at b zero-number h in let e = zero-place in (b, omega arith)
+
+-- ---- -infinity, +infinity, or a finite number
+pub kind : (x : Float) → T (not (isNan x)) → (x ≡ inf true) ⊎ ((x ≡ inf false) ⊎ T (finite x))
+unfolding isNan
+kind nan h = absurd h
+kind (inf true) h = inl refl
+kind (inf false) h = inr (inl refl)
+kind (fin s m e) h = inr (inr tt)
+
+pub within : (x : Float) → T (fits binary64 x) → T (finite x) → (place (inf true) < place x) × (place x < place (inf false))
+within nan f k = absurd k
+within (inf s) f k = absurd k
+within (fin s m e) f k = let p = placed s m e f in go s (p .at) (fin-place p) (p .inside) (inf-place true) (inf-place false)
+  where
+    go : (s : Bool) (b : ℕ) {x l r : ℕ} → x ≡ spot s b → b < infBits → l ≡ spot true infBits → r ≡ spot false infBits → (l < x) × (x < r)
+    go true b h k i j = omega arith
+    go false b h k i j = omega arith
+
+-- ---- a step goes one way, or stays
+pub up-moves : {x : Float} → Number x → place x ≤ place (nextUp x)
+unfolding nextUp nextBits isNan toBits ofBits
+up-moves {x} a = go (kind x (a .real))
+  where
+    go : (x ≡ inf true) ⊎ ((x ≡ inf false) ⊎ T (finite x)) → place x ≤ place (nextUp x)
+    go (inl e) = let i = ap place e in let j = inf-place true in let k = inf-place false in let u : place (nextUp x) ≡ place x + 1 = up-place a (omega arith) in omega arith
+    go (inr (inl e)) = le-of-eq (ap place (e ∙ ap nextUp (sym e)))
+    go (inr (inr k)) = let u = up-place a (within x (a .held) k .1) in omega arith
+
+pub down-moves : {x : Float} → Number x → place (nextDown x) ≤ place x
+unfolding nextDown
+down-moves a = let b = neg-number a in let h = up-moves b in let i = neg-place a in let j = neg-place (up-number b) in omega arith

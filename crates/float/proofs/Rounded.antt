@@ -35,16 +35,16 @@ units-neg f s q k = go (ltb (q * 2 ^ k) (2 ^ (low f + suc (emax f))))
     go true = odd-neg (suc (prec f)) s q k (low f)
     go false = unfold neg in refl
 
-round-neg : (f : Format) (s : Bool) (a c : ℕ) → neg (round f s a c) ≡ round f (not s) a c
+pub round-neg : (f : Format) (s : Bool) (a c : ℕ) → neg (round f s a c) ≡ round f (not s) a c
 round-neg f s a c = ap neg (round-is f s a c) ∙ units-neg f s _ _ ∙ sym (round-is f (not s) a c)
 
-neg-finite : (x : Float) → finite (neg x) ≡ finite x
+pub neg-finite : (x : Float) → finite (neg x) ≡ finite x
 unfolding neg
 neg-finite nan = refl
 neg-finite (inf s) = refl
 neg-finite (fin s m e) = refl
 
-neg-plus : (x : Float) → (plus (neg x) ≡ minus x) × (minus (neg x) ≡ plus x)
+pub neg-plus : (x : Float) → (plus (neg x) ≡ minus x) × (minus (neg x) ≡ plus x)
 unfolding neg
 neg-plus nan = (refl, refl)
 neg-plus (inf s) = (refl, refl)
@@ -55,7 +55,7 @@ swap : (s : Bool) (a : ℕ) → (cond (not s) 0 a ≡ cond s a 0) × (cond (not 
 swap true a = (refl, refl)
 swap false a = (refl, refl)
 
-other : {r : Float} {p n c : ℕ} → Rounded r p n c → Rounded (neg r) n p c
+pub other : {r : Float} {p n c : ℕ} → Rounded r p n c → Rounded (neg r) n p c
 other {r} {p} {n} {c} h = record {
   sign = not (h .sign);
   size = h .size;

@@ -1,9 +1,10 @@
 // f64 from the bits: IEEE 754's nextUp, nextDown, abs, the lesser and the greater of two, and the
 // order of totalOrder. Each contract is one equation with a definition of `specs/Float.antt`.
 ghost use mathlib.Core.Path.{_≡_};
-ghost use mathlib.Core.Bool.{false, _||_};
+ghost use mathlib.Core.Bool.{false, _||_, cond};
+ghost use Prim.Native.Nat.{_%_, _≤_};
 ghost use lib.Ieee.{isNan, inf, binary64, toBits, ofBits};
-ghost use Rattle.float.specs.Float.{nextBits, negative, nextUp, nextDown, abs, finite, lesser, greater, before};
+ghost use Rattle.float.specs.Float.{infBits, signBit, nextBits, negative, nextUp, nextDown, abs, finite, lesser, greater, before};
 
 pub fn is_nan(x: f64) -> bool
     ensures { λ r. ⌜ r ≡ isNan x ⌝ }
@@ -31,20 +32,21 @@ pub fn float_of(b: u64) -> f64
     0.0 / 0.0
 }
 
-// The pattern after b.
+fn pick(t: bool, x: u64, y: u64) -> u64
+    ensures { λ r. ⌜ r ≡ cond t x y ⌝ }
+{
+    if t { x } else { y }
+}
+
+// The pattern after b, which is no NaN's, without a branch on its sign: one more, and two less where
+// the sign is set.
 fn next_bits(b: u64) -> u64
+    requires { ⌜ b % signBit ≤ infBits ⌝ }
     ensures { λ r. ⌜ r ≡ nextBits b ⌝ }
 {
-    if b < 0x7ff0_0000_0000_0000 {
-        return b + 1;
-    }
-    if b == 0x7ff0_0000_0000_0000 {
-        return b;
-    }
-    if b == 0x8000_0000_0000_0000 {
-        return 1;
-    }
-    b - 1
+    let stepped = b - 2 * (b / 0x8000_0000_0000_0000) + 1;
+    let up = pick(b == 0x8000_0000_0000_0000, 1, stepped);
+    pick(b == 0x7ff0_0000_0000_0000, b, up)
 }
 
 pub fn next_up(x: f64) -> f64

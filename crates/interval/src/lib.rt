@@ -43,14 +43,20 @@ fn unless(bad: bool, i: Interval) -> Interval
     if bad { whole() } else { i }
 }
 
+// Each NaN is tested by itself, so that the steps need not test again.
 fn outward(l: f64, h: f64) -> Interval
     ensures { λ r. ⌜ r ≡ outward l h ⌝ }
 {
-    let stepped = Interval {
+    if float::is_nan(l) {
+        return whole();
+    }
+    if float::is_nan(h) {
+        return whole();
+    }
+    Interval {
         lo: float::next_down(l),
         hi: float::next_up(h),
-    };
-    unless(float::either_nan(l, h), stepped)
+    }
 }
 
 pub fn add(a: Interval, b: Interval) -> Interval

@@ -3,7 +3,7 @@ use Prim.Native.Nat.{ℕ}
 use mathlib.Core.Bool.{not}
 use lib.Dec.{T}
 use lib.Ieee.{binary64, nanBits, ofBits}
-use Rattle.float.proofs.Facts.{next-nan, next-step, next-plain, yes, no}
+use Rattle.float.proofs.Facts.{plain-back, bits-plain, next-nan, next-step, next-plain, yes, no}
 use borrow.Author.Needs.{needs}
 use Rattle.float.proofs.next_up.Statement.{statement}
 use Rattle.float.proofs.next_up.Tie as tie
@@ -26,7 +26,7 @@ float-to-bits-next-bits c = no (sym (c .before .is-nan .ensures) ∙ c .if1 .lef
 
 -- src/lib.rt:35:20
 next-bits-requires : tie.Need-next-bits-requires
-next-bits-requires c κs = search needs
+next-bits-requires c κs = plain-back _ (bits-plain _ (yes (c .before .before .good .0 .1)) (no (sym (c .before .is-nan .ensures) ∙ c .if1 .left)))
 
 -- src/lib.rt:35:5
 float-from-bits-result : tie.Need-float-from-bits-result
