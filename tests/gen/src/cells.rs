@@ -1,21 +1,19 @@
 //! Cells to offset and to hollow.
-use crate::bytes::Tolerances;
 use crate::jobs::{solid, tolerances};
 use crate::random::Random;
-use crate::solid::{cuboid, gem, prism, Solid};
+use crate::solid::{cuboid, gem, prism, Reshape};
+use oracle::{CellFile, Solid, Tolerances};
 
-/// A solid and a distance: an offset's, or a hollow's thickness.
+/// A cell and a distance: an offset's, or a hollow's thickness.
 #[derive(Clone, Debug)]
 pub struct Moved {
-    pub tolerances: Tolerances,
-    pub solid: Solid,
+    pub cell: CellFile,
     pub by: f64,
 }
 
-impl Moved {
-    pub fn bytes(&self) -> Vec<u8> {
-        crate::bytes::cell(&self.tolerances, &self.solid)
-    }
+fn moved(tolerances: Tolerances, solid: Solid, by: f64) -> Moved {
+    let cell = CellFile { tolerances, solid };
+    Moved { cell, by }
 }
 
 fn simple_solid(random: &mut Random) -> Solid {
@@ -65,20 +63,13 @@ pub fn any(random: &mut Random) -> Moved {
         solid = solid.reordered(random);
     }
     let by = distance(random, &t);
-    Moved {
-        tolerances: t,
-        solid,
-        by,
-    }
+    moved(t, solid, by)
 }
 
 /// A box whose wall or offset comes close to half its edge.
 pub fn box_near_half(random: &mut Random) -> Moved {
     let t = tolerances(random);
     let share = random.pick(&[-2.0, -1.0, -0.5, 0.0, 0.5, 1.0, 2.0]);
-    Moved {
-        tolerances: t,
-        solid: cuboid([0.0; 3], [2.0, 2.0, 3.0]),
-        by: 1.0 + share * t.local,
-    }
+    let solid = cuboid([0.0; 3], [2.0, 2.0, 3.0]);
+    moved(t, solid, 1.0 + share * t.local)
 }

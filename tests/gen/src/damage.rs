@@ -1,7 +1,7 @@
 //! Damaged files: what 1, 2, 3 and 4 are given for, and what comes close to it.
-use crate::bytes::{join, Job, Record, Tolerances};
 use crate::random::Random;
-use crate::solid::{cube, prism, Solid};
+use crate::solid::{add, cube, prism, scale, Reshape};
+use oracle::{join, Job, Record, Solid, Tolerances};
 
 /// A file cut short at every length, the whole file not included.
 pub fn cut_short(bytes: &[u8]) -> impl Iterator<Item = &[u8]> {
@@ -123,11 +123,11 @@ pub fn moved_point(random: &mut Random, solid: &Solid, t: &Tolerances) -> Solid 
         true => random.direction(),
         false => random.pick(&[[1.0, 0.0, 0.0], [0.0, -1.0, 0.0], [0.0, 0.0, 1.0]]),
     };
-    let step = crate::solid::scale(direction, share * t.local);
+    let step = scale(direction, share * t.local);
     match random.below(3) {
         0 => solid.points[at] = other,
-        1 => solid.points[at] = crate::solid::add(other, step),
-        _ => solid.points[at] = crate::solid::add(solid.points[at], step),
+        1 => solid.points[at] = add(other, step),
+        _ => solid.points[at] = add(solid.points[at], step),
     }
     solid
 }

@@ -1,24 +1,11 @@
 //! Facets to mesh.
-use crate::bytes::Tolerances;
 use crate::jobs::tolerances;
 use crate::random::Random;
-use crate::solid::{add, cross, scale, Point};
-
-#[derive(Clone, Debug)]
-pub struct Facet {
-    pub tolerances: Tolerances,
-    pub plane: [f64; 12],
-    pub points: Vec<Point>,
-}
-
-impl Facet {
-    pub fn bytes(&self) -> Vec<u8> {
-        crate::bytes::facet(&self.tolerances, &self.plane, &self.points)
-    }
-}
+use crate::solid::{add, cross, scale};
+use oracle::{Face, FacetFile, Plane, Point, Tolerances};
 
 /// A right-handed frame, nearly orthogonal as rounding leaves it.
-pub fn plane(random: &mut Random, origin: Point) -> [f64; 12] {
+pub fn plane(random: &mut Random, origin: Point) -> Plane {
     let z = match random.below(3) {
         0 => [0.0, 0.0, 1.0],
         _ => random.direction(),
@@ -35,7 +22,7 @@ pub fn plane(random: &mut Random, origin: Point) -> [f64; 12] {
     std::array::from_fn(|i| parts[i / 3][i % 3])
 }
 
-fn lifted(plane: &[f64; 12], [u, v]: [f64; 2], w: f64) -> Point {
+fn lifted(plane: &Plane, [u, v]: [f64; 2], w: f64) -> Point {
     let part = |i: usize| [plane[i], plane[i + 1], plane[i + 2]];
     let along = add(scale(part(3), u), scale(part(6), v));
     add(part(0), add(along, scale(part(9), w)))
@@ -111,7 +98,7 @@ fn star(random: &mut Random, most: usize) -> Vec<[f64; 2]> {
 }
 
 /// A facet of any family; its plane may be left-handed, its corners off their plane.
-pub fn any(random: &mut Random) -> Facet {
+pub fn any(random: &mut Random) -> FacetFile {
     let t = tolerances(random);
     let far = random.pick(&[0.0, 1.0, 1e6]);
     let origin = [(); 3].map(|()| random.signed() * far);
@@ -131,22 +118,23 @@ pub fn any(random: &mut Random) -> Facet {
         let w = off * random.signed();
         points.push(lifted(&plane, [u * size, v * size], w));
     }
-    Facet {
+    FacetFile {
         tolerances: t,
-        plane,
-        points,
+        facet: Face { plane, points },
     }
 }
 
 /// Facets at the ends of the counts: 0 to 4 and 127 to 130 corners.
-pub fn counts() -> Vec<Facet> {
+pub fn counts() -> Vec<FacetFile> {
     let plane = plane(&mut Random::new(0), [0.0; 3]);
     let corner = |q: [f64; 2]| lifted(&plane, q, 0.0);
     let round: Vec<Point> = straight_runs(32).into_iter().map(corner).collect();
-    let facet = |n: usize| Facet {
+    let facet = |n: usize| FacetFile {
         tolerances: Tolerances::USUAL,
-        plane,
-        points: round[..n].to_vec(),
+        facet: Face {
+            plane,
+            points: round[..n].to_vec(),
+        },
     };
     (0..=4).chain(127..=130).map(facet).collect()
 }

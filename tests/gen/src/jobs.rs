@@ -1,7 +1,7 @@
 //! Families of jobs.
-use crate::bytes::{Job, Operation, Tolerances};
 use crate::random::Random;
-use crate::solid::{ball, cube, cuboid, gem, prism, tetrahedron, Point, Solid};
+use crate::solid::{ball, cube, cuboid, gem, prism, tetrahedron, Reshape};
+use oracle::{Job, Operation, Point, Solid, Tolerances};
 
 /// How [c, d] can lie to [0, 3]: one for each relation of two ranges.
 const RANGES: [[f64; 2]; 13] = [

@@ -1,11 +1,8 @@
 //! Questions for single functions, at their edges: whole jobs seldom meet these.
-use crate::bytes::Tolerances;
 use crate::facets::plane;
 use crate::random::Random;
-use crate::solid::{add, ball, cube, gem, prism, scale, tetrahedron, Point, Solid};
-
-/// A plane as origin, x, y, z.
-pub type Plane = [f64; 12];
+use crate::solid::{add, ball, cube, gem, prism, scale, tetrahedron, Reshape};
+use oracle::{Plane, Point, Solid, Tolerances};
 
 // ---- numbers
 

@@ -1,7 +1,7 @@
 //! The pairs of document 01 that are jobs.
-use crate::bytes::Job;
-use crate::bytes::Operation::{Difference, Intersection, Union};
 use crate::solid::{cube, cuboid};
+use oracle::Job;
+use oracle::Operation::{Difference, Intersection, Union};
 
 /// Each with the name of its file. All boxes have their faces in `cuboid`'s order.
 pub fn files() -> Vec<(&'static str, Job)> {

@@ -1,14 +1,6 @@
 //! Solids, counter-clockwise from outside.
 use crate::random::Random;
-
-pub type Point = [f64; 3];
-
-/// Points, and faces by the places of their corners.
-#[derive(Clone, Debug, PartialEq)]
-pub struct Solid {
-    pub points: Vec<Point>,
-    pub faces: Vec<Vec<usize>>,
-}
+use oracle::{Point, Solid};
 
 pub fn add(a: Point, b: Point) -> Point {
     [a[0] + b[0], a[1] + b[1], a[2] + b[2]]
@@ -179,32 +171,39 @@ fn cycle_at(triangles: &[[usize; 3]], vertex: usize) -> Option<Vec<usize>> {
     (cycle.len() >= 3).then_some(cycle)
 }
 
-impl Solid {
-    pub fn mapped(&self, f: impl Fn(Point) -> Point) -> Solid {
-        Solid {
-            points: self.points.iter().map(|&q| f(q)).collect(),
-            faces: self.faces.clone(),
-        }
-    }
+/// The same faces over other points, or the same solid in another order.
+pub trait Reshape {
+    fn mapped(&self, f: impl Fn(Point) -> Point) -> Solid;
 
-    pub fn shifted(&self, by: Point) -> Solid {
+    fn shifted(&self, by: Point) -> Solid {
         self.mapped(|q| add(q, by))
     }
 
-    pub fn scaled(&self, by: f64) -> Solid {
+    fn scaled(&self, by: f64) -> Solid {
         self.mapped(|q| scale(q, by))
     }
 
     /// Turned about the z axis and then the x axis by the angles whose half has tangent t.
-    pub fn turned(&self, t: f64) -> Solid {
+    fn turned(&self, t: f64) -> Solid {
         let (c, s) = ((1.0 - t * t) / (1.0 + t * t), 2.0 * t / (1.0 + t * t));
         let about_z = |[x, y, z]: Point| [c * x - s * y, s * x + c * y, z];
         let about_x = |[x, y, z]: Point| [x, c * y - s * z, s * y + c * z];
         self.mapped(|q| about_x(about_z(q)))
     }
 
-    /// The same solid with points, faces and the starts of faces in another order.
-    pub fn reordered(&self, random: &mut Random) -> Solid {
+    /// Points, faces and the starts of faces in another order.
+    fn reordered(&self, random: &mut Random) -> Solid;
+}
+
+impl Reshape for Solid {
+    fn mapped(&self, f: impl Fn(Point) -> Point) -> Solid {
+        Solid {
+            points: self.points.iter().map(|&q| f(q)).collect(),
+            faces: self.faces.clone(),
+        }
+    }
+
+    fn reordered(&self, random: &mut Random) -> Solid {
         let mut order: Vec<usize> = (0..self.points.len()).collect();
         random.shuffle(&mut order);
         let place = |i: &usize| order.iter().position(|o| o == i).expect("an order has all");

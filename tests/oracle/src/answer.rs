@@ -5,13 +5,13 @@ use std::fmt::Write;
 /// A facet: its plane and its cycle of corners.
 pub type Facet = Face;
 
-#[derive(Clone, Debug)]
+#[derive(Clone, Debug, PartialEq)]
 pub struct Shell {
     pub outward: bool,
     pub facets: Vec<Facet>,
 }
 
-#[derive(Clone, Debug)]
+#[derive(Clone, Debug, PartialEq)]
 pub struct Body {
     pub shells: Vec<Shell>,
 }

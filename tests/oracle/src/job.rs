@@ -6,12 +6,20 @@ const MOST: usize = 32_768;
 
 #[derive(Clone, Copy, Debug, PartialEq, Eq)]
 pub enum Operation {
-    Intersection,
-    Difference,
-    Union,
+    Intersection = 1,
+    Difference = 2,
+    Union = 3,
 }
 
-#[derive(Clone, Debug)]
+impl Operation {
+    pub const ALL: [Operation; 3] = [
+        Operation::Intersection,
+        Operation::Difference,
+        Operation::Union,
+    ];
+}
+
+#[derive(Clone, Debug, PartialEq)]
 pub struct Job {
     pub tolerances: Tolerances,
     pub first: Solid,
@@ -19,13 +27,13 @@ pub struct Job {
     pub operation: Operation,
 }
 
-#[derive(Clone, Debug)]
+#[derive(Clone, Debug, PartialEq)]
 pub struct CellFile {
     pub tolerances: Tolerances,
     pub solid: Solid,
 }
 
-#[derive(Clone, Debug)]
+#[derive(Clone, Debug, PartialEq)]
 pub struct FacetFile {
     pub tolerances: Tolerances,
     pub facet: Face,

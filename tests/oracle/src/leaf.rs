@@ -20,13 +20,21 @@ pub type Point = [f64; 3];
 /// Origin, x, y, z.
 pub type Plane = [f64; 12];
 
-#[derive(Clone, Copy, Debug)]
+#[derive(Clone, Copy, Debug, PartialEq)]
 pub struct Tolerances {
     pub linear: f64,
     pub local: f64,
 }
 
-#[derive(Clone, Debug)]
+impl Tolerances {
+    /// Those of document 01's pairs, 2^-20 and 2^-18.
+    pub const USUAL: Tolerances = Tolerances {
+        linear: 1.0 / 1_048_576.0,
+        local: 1.0 / 262_144.0,
+    };
+}
+
+#[derive(Clone, Debug, PartialEq)]
 pub struct Face {
     pub plane: Plane,
     pub points: Vec<Point>,
@@ -35,7 +43,7 @@ pub struct Face {
 pub type Cell = Vec<Face>;
 
 /// Points, and faces by the places of their corners.
-#[derive(Clone, Debug)]
+#[derive(Clone, Debug, PartialEq)]
 pub struct Solid {
     pub points: Vec<Point>,
     pub faces: Vec<Vec<usize>>,

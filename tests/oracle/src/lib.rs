@@ -8,6 +8,7 @@ pub mod leaf;
 mod mesh;
 #[allow(dead_code, unreachable_code)] // as above; and there are no widened edges or vertices
 mod planar;
+mod record;
 pub mod refusal;
 mod room;
 #[allow(dead_code)] // docs/src also names what no call reads
@@ -20,6 +21,7 @@ pub use calls::{
 };
 pub use job::{read_cell, read_facet, read_job, CellFile, FacetFile, Job, Operation};
 pub use leaf::{Cell, Face, Outcome, Plane, Point, Solid, Tolerances};
+pub use record::{join, Record};
 pub use shim::math::{Interval, Sign};
 
 // docs/src finds these in its own crate.

@@ -24,13 +24,6 @@ fn require(met: &BTreeSet<u32>, wanted: &[u32]) {
     }
 }
 
-fn tolerances(t: &gen::Tolerances) -> Tolerances {
-    Tolerances {
-        linear: t.linear,
-        local: t.local,
-    }
-}
-
 /// A call without a room, and the same with one: equal, or 12.
 fn with_and_without(call: impl Fn(Lent) -> Outcome<Vec<u8>>, room: usize) -> u32 {
     let free = call(Lent::UNBOUNDED);
@@ -78,25 +71,27 @@ fn damaged_jobs() {
     });
     require(&met, &[0, 1, 2, 3, 4, 5, 7]);
     for solid in damage::counts() {
-        let n = number(&leaf::check(&T, &common::solid(&solid), true));
+        let n = number(&leaf::check(&T, &solid, true));
         assert!([0, 3, 4].contains(&n));
     }
-    assert!(leaf::check(&T, &common::solid(&damage::dented()), true).is_ok());
+    assert!(leaf::check(&T, &damage::dented(), true).is_ok());
 }
 
 #[test]
 fn offsets_hollows_and_meshes() {
     let met = numbers(800, |random| {
-        let cell = cells::any(random);
-        with_and_without(|lent| oracle::offset(&cell.bytes(), cell.by, lent), 100)
+        let moved = cells::any(random);
+        let cell = moved.cell.bytes();
+        with_and_without(|lent| oracle::offset(&cell, moved.by, lent), 100)
     });
     require(&met, &[0, 2, 4, 5, 24, 26, 27]);
     let met = numbers(800, |random| {
-        let cell = match random.coin() {
+        let moved = match random.coin() {
             true => cells::any(random),
             false => cells::box_near_half(random),
         };
-        with_and_without(|lent| oracle::hollow(&cell.bytes(), cell.by, lent), 100)
+        let cell = moved.cell.bytes();
+        with_and_without(|lent| oracle::hollow(&cell, moved.by, lent), 100)
     });
     require(&met, &[0, 4, 5, 7, 24, 26, 27, 28, 29]);
     let met = numbers(2000, |random| {
@@ -105,7 +100,7 @@ fn offsets_hollows_and_meshes() {
     });
     require(&met, &[0, 2, 3, 30, 31, 32, 33, 34]);
     let ends = facets::counts();
-    let of = |f: &facets::Facet| number(&oracle::mesh(&f.bytes(), Some(128)));
+    let of = |f: &oracle::FacetFile| number(&oracle::mesh(&f.bytes(), Some(128)));
     assert_eq!(ends.iter().map(of).filter(|&n| n == 12).count(), 2);
 }
 
@@ -140,19 +135,19 @@ fn holds_exact(x: [f64; 2], y: [f64; 2]) {
 #[test]
 fn near_and_side() {
     let met = numbers(2000, |random| {
-        let [a, b] = leaves::near(random, &gen::Tolerances::USUAL);
+        let [a, b] = leaves::near(random, &T);
         assert_eq!(leaf::near(&T, &a, &b), leaf::near(&T, &b, &a));
         leaf::near(&T, &a, &b).map_or_else(|n| n, u32::from)
     });
     assert_eq!(met, BTreeSet::from([0, 1, 6]));
     let met = numbers(2000, |random| {
-        let (plane, q) = leaves::side(random, &gen::Tolerances::USUAL);
+        let (plane, q) = leaves::side(random, &T);
         leaf::side(&T, &plane, &q).map_or_else(|n| n, |s| s as u32)
     });
     let signs = [Sign::Negative, Sign::Zero, Sign::Positive].map(|s| s as u32);
     assert_eq!(met, signs.into_iter().chain([7]).collect());
     let met = numbers(2000, |random| {
-        let [origin, normal, hint] = leaves::frame(random, &gen::Tolerances::USUAL);
+        let [origin, normal, hint] = leaves::frame(random, &T);
         number(&leaf::frame(&T, &origin, &normal, &hint))
     });
     assert_eq!(met, BTreeSet::from([0, 5]));
@@ -161,12 +156,12 @@ fn near_and_side() {
 #[test]
 fn chains_and_hulls() {
     let met = numbers(2000, |random| {
-        let chain = leaves::chain(random, &gen::Tolerances::USUAL);
+        let chain = leaves::chain(random, &T);
         number(&leaf::unique(&T, &chain))
     });
     assert_eq!(met, BTreeSet::from([0, 6]));
     let met = numbers(2000, |random| {
-        let (plane, points) = leaves::hull(random, &gen::Tolerances::USUAL);
+        let (plane, points) = leaves::hull(random, &T);
         number(&leaf::hull(&T, &plane, &points))
     });
     assert_eq!(met, BTreeSet::from([0, 6, 10]));
@@ -189,8 +184,8 @@ fn keeps_promise(t: &Tolerances, cell: &Cell, plane: &oracle::Plane, part: &Opti
 fn cuts() {
     let met = numbers(2000, |random| {
         let question = leaves::cut(random);
-        let t = tolerances(&question.tolerances);
-        let Ok(cell) = leaf::check(&t, &common::solid(&question.solid), true) else {
+        let t = question.tolerances;
+        let Ok(cell) = leaf::check(&t, &question.solid, true) else {
             return 0;
         };
         let part = leaf::clip(&t, None, &cell, &question.plane);
@@ -205,7 +200,7 @@ fn cuts() {
 #[test]
 fn arrangements() {
     let met = numbers(4000, |random| {
-        let (points, polygon) = leaves::edges(random, &gen::Tolerances::USUAL);
+        let (points, polygon) = leaves::edges(random, &T);
         number(&leaf::conform(&T, &points, &polygon))
     });
     require(&met, &[0, 15, 16, 17]);
@@ -214,7 +209,7 @@ fn arrangements() {
             plane: plane_x(0.0),
             points: points.clone(),
         };
-        let loose = leaves::loose(random, &gen::Tolerances::USUAL);
+        let loose = leaves::loose(random, &T);
         let cells: Vec<Cell> = loose.iter().map(|c| c.iter().map(face).collect()).collect();
         number(&leaf::fuse_cells(&T, None, &cells))
     });
@@ -250,13 +245,13 @@ fn mesh_leaves() {
         y: Interval::ends(y[0], y[1]),
     };
     let met = numbers(4000, |random| {
-        let [a, b, c] = leaves::shadows(random, &gen::Tolerances::USUAL).map(shadow);
+        let [a, b, c] = leaves::shadows(random, &T).map(shadow);
         leaf::orientation(&T, &a, &b, &c).map_or_else(|n| n, |s| s as u32)
     });
     assert_eq!(met, BTreeSet::from([0, 1, 2, 33]));
     let met = numbers(4000, |random| {
         let ends = |[lo, hi]: [f64; 2]| Interval::ends(lo, hi);
-        let [a, b, z] = leaves::ranges(random, &gen::Tolerances::USUAL).map(ends);
+        let [a, b, z] = leaves::ranges(random, &T).map(ends);
         u32::from(leaf::contains_range(&T, a, b, z))
     });
     assert_eq!(met, BTreeSet::from([0, 1]));

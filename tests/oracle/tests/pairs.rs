@@ -3,10 +3,9 @@ mod common;
 
 use common::*;
 use gen::solid::{cube, cuboid};
-use gen::{Job, Operation};
-use oracle::{leaf, Body, Lent, Sign};
+use oracle::{leaf, Body, Job, Lent, Operation, Sign, Solid};
 
-fn fused(first: gen::Solid, second: gen::Solid, operation: Operation) -> Vec<Body> {
+fn fused(first: Solid, second: Solid, operation: Operation) -> Vec<Body> {
     let job = Job::usual(first, second, operation).bytes();
     oracle::fuse_bodies(&job, Lent::UNBOUNDED).expect("an answer")
 }
@@ -64,7 +63,7 @@ fn p9_union() {
     assert_eq!(shells(&bodies), [[42]]);
     let facets = &bodies[0].shells[0].facets;
     let mesh = |f: &oracle::Facet| {
-        let file = gen::bytes::facet(&gen::Tolerances::USUAL, &f.plane, &f.points);
+        let file = facet_file(&f.plane, &f.points);
         oracle::mesh_triangles(&file, Some(128)).expect("triangles")
     };
     let triangles: usize = facets.iter().map(|f| mesh(f).len()).sum();
@@ -128,7 +127,7 @@ fn p14_mesh() {
     ];
     let z = [0.0, 0.0, 1.0];
     let plane = leaf::frame(&T, &square[0], &z, &square[1]).expect("a frame");
-    let file = gen::bytes::facet(&gen::Tolerances::USUAL, &plane, &square);
+    let file = facet_file(&plane, &square);
     let triangles = oracle::mesh_triangles(&file, Some(4));
     assert_eq!(triangles, Ok(vec![[3, 0, 1], [1, 2, 3]]));
     let bytes: Vec<u8> = [3u32, 0, 1, 1, 2, 3]

@@ -2,10 +2,12 @@
 mod common;
 
 use common::*;
-use gen::bytes::{cell, facet, join};
 use gen::solid::{cube, cuboid, prism, tetrahedron};
-use gen::{Job, Operation, Random};
-use oracle::{leaf, Cell, Face, Interval, Lent, Outcome, Plane, Point, Sign, Tolerances};
+use gen::Random;
+use oracle::{
+    join, leaf, Cell, Face, Interval, Job, Lent, Operation, Outcome, Plane, Point, Sign, Solid,
+    Tolerances,
+};
 
 const FREE: Lent = Lent::UNBOUNDED;
 
@@ -17,12 +19,12 @@ fn fused(job: &Job) -> Outcome<Vec<u8>> {
     oracle::fuse(&job.bytes(), FREE)
 }
 
-fn offset(solid: &gen::Solid, by: f64) -> Outcome<Vec<u8>> {
+fn offset(solid: &Solid, by: f64) -> Outcome<Vec<u8>> {
     oracle::offset(&cell_file(solid), by, FREE)
 }
 
-fn check(solid: &gen::Solid) -> Outcome<Cell> {
-    leaf::check(&T, &common::solid(solid), true)
+fn check(solid: &Solid) -> Outcome<Cell> {
+    leaf::check(&T, solid, true)
 }
 
 fn refused<T>(outcome: Outcome<T>) -> u32 {
@@ -94,7 +96,7 @@ fn two_for_tolerances_and_numbers() {
     ];
     for (linear, local) in bad {
         let mut job = box_job();
-        job.tolerances = gen::Tolerances { linear, local };
+        job.tolerances = Tolerances { linear, local };
         assert_eq!(fused(&job), Err(2));
     }
     for x in [f64::NAN, f64::INFINITY, 1_048_576f64.next_up()] {
@@ -122,7 +124,7 @@ fn three_for_counts() {
 
 #[test]
 fn four_for_the_solid() {
-    let damaged = |damage: fn(&mut gen::Solid)| {
+    let damaged = |damage: fn(&mut Solid)| {
         let mut solid = cube(0.0, 2.0);
         damage(&mut solid);
         refused(check(&solid))
@@ -177,7 +179,7 @@ fn nine_for_a_cut_point() {
     let mut nines = 0;
     for _ in 0..100 {
         let (a, b) = (-1e6 * random.unit(), 1e6 * random.unit());
-        let cell = leaf::check(&t, &common::solid(&cuboid([a; 3], [b; 3])), true).expect("a box");
+        let cell = leaf::check(&t, &cuboid([a; 3], [b; 3]), true).expect("a box");
         nines += u32::from(leaf::clip(&t, None, &cell, &plane_x(0.1)).err() == Some(9));
     }
     assert!(nines > 0);
@@ -286,7 +288,7 @@ fn twenty_eight_and_twenty_nine_for_hollows() {
 
 fn mesh(points: &[Point]) -> Outcome<Vec<[usize; 3]>> {
     let plane = leaf::frame(&T, &O, &Z, &X).expect("a frame");
-    oracle::mesh_triangles(&facet(&gen::Tolerances::USUAL, &plane, points), Some(128))
+    oracle::mesh_triangles(&facet_file(&plane, points), Some(128))
 }
 
 #[test]
@@ -305,7 +307,7 @@ fn thirty_to_thirty_three_for_the_mesh() {
 fn thirty_four_for_a_plane() {
     let mut plane = leaf::frame(&T, &O, &Z, &X).expect("a frame");
     plane[9..].copy_from_slice(&[0.0, 0.0, -1.0]);
-    let file = facet(&gen::Tolerances::USUAL, &plane, &[O, X]);
+    let file = facet_file(&plane, &[O, X]);
     assert_eq!(oracle::mesh_triangles(&file, Some(128)), Err(34));
     assert_eq!(leaf::reciprocal(Interval::ends(0.0, 1.0)).unwrap_err(), 34);
     let unbounded = leaf::reciprocal(Interval::ends(f64::from_bits(1), 1.0)).expect("kept");
@@ -323,7 +325,7 @@ fn the_order_of_a_call() {
     assert_eq!(oracle::fuse(&job.bytes()[1..], small), Err(1));
     assert_eq!(oracle::fuse(&job.bytes(), small), Err(12));
     assert_eq!(oracle::fuse(&job.bytes(), Lent::even(8)), Err(2));
-    let bad = cell(&gen::Tolerances::USUAL, &prism(63, 1.0, 1.0));
+    let bad = cell_file(&prism(63, 1.0, 1.0));
     assert_eq!(oracle::hollow(&bad, 0.0, FREE), Err(28));
     assert_eq!(oracle::offset(&bad, f64::NAN, FREE), Err(3));
     let mut both = box_job();

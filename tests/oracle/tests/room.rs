@@ -3,8 +3,7 @@ mod common;
 
 use common::*;
 use gen::solid::{cube, cuboid, prism};
-use gen::{Job, Operation};
-use oracle::{leaf, Cell, Face, Lent, Outcome};
+use oracle::{leaf, Cell, Face, Job, Lent, Operation, Outcome};
 
 fn cut(cell: &Cell, x: f64, room: usize) -> Outcome<Option<Cell>> {
     leaf::clip(&T, Some(room), cell, &plane_x(x))

@@ -1,33 +1,40 @@
 //! What the tests share: document 01's tolerances, and solids as the leaves take them.
 #![allow(dead_code)] // each test file uses a part
 
-use oracle::{leaf, Cell, Plane, Solid, Tolerances};
+use oracle::{leaf, Cell, CellFile, Face, FacetFile, Plane, Point, Solid, Tolerances};
 
-pub const LINEAR: f64 = 1.0 / 1_048_576.0;
-pub const LOCAL: f64 = 1.0 / 262_144.0;
-pub const T: Tolerances = Tolerances {
-    linear: LINEAR,
-    local: LOCAL,
-};
+pub const T: Tolerances = Tolerances::USUAL;
+pub const LINEAR: f64 = T.linear;
+pub const LOCAL: f64 = T.local;
 
 /// The plane at x, normal +x, hint +y.
 pub fn plane_x(x: f64) -> Plane {
     leaf::frame(&T, &[x, 0.0, 0.0], &[1.0, 0.0, 0.0], &[0.0, 1.0, 0.0]).expect("a frame")
 }
 
-pub fn solid(given: &gen::Solid) -> Solid {
-    Solid {
-        points: given.points.clone(),
-        faces: given.faces.clone(),
-    }
+pub fn checked(solid: &Solid) -> Cell {
+    leaf::check(&T, solid, true).expect("a sound solid")
 }
 
-pub fn checked(given: &gen::Solid) -> Cell {
-    leaf::check(&T, &solid(given), true).expect("a sound solid")
+/// The bytes of a cell with the usual tolerances.
+pub fn cell_file(solid: &Solid) -> Vec<u8> {
+    let file = CellFile {
+        tolerances: T,
+        solid: solid.clone(),
+    };
+    file.bytes()
 }
 
-pub fn cell_file(given: &gen::Solid) -> Vec<u8> {
-    gen::bytes::cell(&gen::Tolerances::USUAL, given)
+/// The bytes of a facet with the usual tolerances.
+pub fn facet_file(plane: &Plane, points: &[Point]) -> Vec<u8> {
+    let file = FacetFile {
+        tolerances: T,
+        facet: Face {
+            plane: *plane,
+            points: points.to_vec(),
+        },
+    };
+    file.bytes()
 }
 
 /// Six times the volume of an indexed solid.

@@ -1,34 +1,6 @@
-//! The records of job, cell and facet files, little-endian.
-use crate::solid::{Point, Solid};
-
-#[derive(Clone, Copy, Debug, PartialEq)]
-pub struct Tolerances {
-    pub linear: f64,
-    pub local: f64,
-}
-
-impl Tolerances {
-    /// Those of document 01's pairs.
-    pub const USUAL: Tolerances = Tolerances {
-        linear: 1.0 / 1_048_576.0,
-        local: 1.0 / 262_144.0,
-    };
-}
-
-#[derive(Clone, Copy, Debug, PartialEq, Eq)]
-pub enum Operation {
-    Intersection = 1,
-    Difference = 2,
-    Union = 3,
-}
-
-impl Operation {
-    pub const ALL: [Operation; 3] = [
-        Operation::Intersection,
-        Operation::Difference,
-        Operation::Union,
-    ];
-}
+//! The records of job, cell and facet files, little-endian, as they are written.
+use crate::job::{CellFile, FacetFile, Job, Operation};
+use crate::leaf::{Plane, Point, Solid, Tolerances};
 
 /// One record: its kind and its body.
 #[derive(Clone, Debug, PartialEq)]
@@ -76,7 +48,7 @@ impl Record {
         }
     }
 
-    pub fn plane(plane: &[f64; 12]) -> Self {
+    pub fn plane(plane: &Plane) -> Self {
         numbers(9, plane)
     }
 }
@@ -89,15 +61,6 @@ fn solid_records(solid: &Solid) -> Vec<Record> {
     }
     out.push(Record::solid_ends());
     out
-}
-
-/// Two solids and what is done with them.
-#[derive(Clone, Debug)]
-pub struct Job {
-    pub tolerances: Tolerances,
-    pub first: Solid,
-    pub second: Solid,
-    pub operation: Operation,
 }
 
 impl Job {
@@ -129,22 +92,27 @@ pub fn join(records: &[Record]) -> Vec<u8> {
     records.iter().flat_map(bytes).collect()
 }
 
-pub fn cell_records(t: &Tolerances, solid: &Solid) -> Vec<Record> {
-    let mut out = vec![Record::tolerances(t)];
-    out.extend(solid_records(solid));
-    out
+impl CellFile {
+    pub fn records(&self) -> Vec<Record> {
+        let mut out = vec![Record::tolerances(&self.tolerances)];
+        out.extend(solid_records(&self.solid));
+        out
+    }
+
+    pub fn bytes(&self) -> Vec<u8> {
+        join(&self.records())
+    }
 }
 
-pub fn cell(t: &Tolerances, solid: &Solid) -> Vec<u8> {
-    join(&cell_records(t, solid))
-}
+impl FacetFile {
+    pub fn records(&self) -> Vec<Record> {
+        let plane = Record::plane(&self.facet.plane);
+        let mut out = vec![Record::tolerances(&self.tolerances), plane];
+        out.extend(self.facet.points.iter().map(Record::point));
+        out
+    }
 
-pub fn facet_records(t: &Tolerances, plane: &[f64; 12], points: &[Point]) -> Vec<Record> {
-    let mut out = vec![Record::tolerances(t), Record::plane(plane)];
-    out.extend(points.iter().map(Record::point));
-    out
-}
-
-pub fn facet(t: &Tolerances, plane: &[f64; 12], points: &[Point]) -> Vec<u8> {
-    join(&facet_records(t, plane, points))
+    pub fn bytes(&self) -> Vec<u8> {
+        join(&self.records())
+    }
 }
