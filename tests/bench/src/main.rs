@@ -3,6 +3,9 @@ mod numbers;
 mod timed;
 
 fn main() {
-    println!("{:<28} {:>10} {:>10} {:>7}  {}", "call", "port ns", "Rust ns", "ratio", "wish");
+    println!(
+        "{:<28} {:>10} {:>10} {:>7}  {}",
+        "call", "port ns", "Rust ns", "ratio", "wish"
+    );
     numbers::bench();
 }

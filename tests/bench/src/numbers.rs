@@ -11,7 +11,9 @@ fn pairs(random: &mut Random) -> Vec<[[f64; 2]; 2]> {
         let x = r.signed() * 100.0;
         [x, x + r.unit()]
     };
-    (0..INPUTS).map(|_| [interval(random), interval(random)]).collect()
+    (0..INPUTS)
+        .map(|_| [interval(random), interval(random)])
+        .collect()
 }
 
 /// As the port's call: the ends go to two numbers in memory.
@@ -52,8 +54,9 @@ pub fn bench() {
         plain
     });
     row("interval mul", port, rust, 1.2);
-    let turns: Vec<[[f64; 2]; 3]> =
-        (0..INPUTS).map(|_| [(); 3].map(|()| [1.0 + random.unit(), 1.0 + random.unit()])).collect();
+    let turns: Vec<[[f64; 2]; 3]> = (0..INPUTS)
+        .map(|_| [(); 3].map(|()| [1.0 + random.unit(), 1.0 + random.unit()]))
+        .collect();
     let port = ns(&turns, |t| ours::orient2d(t[0], t[1], t[2]));
     let rust = ns(&turns, |t| plain_orient2d(t[0], t[1], t[2]));
     row("orient2d / plain f64", port, rust, 20.0);

@@ -18,5 +18,8 @@ pub fn ns<I: Copy, A>(inputs: &[I], mut f: impl FnMut(I) -> A) -> f64 {
 
 /// One line: a call of the port, the same in Rust, and the ratio that is wished for.
 pub fn row(name: &str, port: f64, rust: f64, wish: f64) {
-    println!("{name:<28} {port:>10.1} {rust:>10.1} {:>7.2}  {wish}", port / rust);
+    println!(
+        "{name:<28} {port:>10.1} {rust:>10.1} {:>7.2}  {wish}",
+        port / rust
+    );
 }

@@ -10,10 +10,13 @@ fn option(name: &str, default: u64) -> u64 {
     let words: Vec<_> = std::env::args().collect();
     match words.iter().position(|w| w == name) {
         None => default,
-        Some(i) => words.get(i + 1).and_then(|w| w.parse().ok()).unwrap_or_else(|| {
-            eprintln!("compare: {name} needs a whole number");
-            std::process::exit(2)
-        }),
+        Some(i) => words
+            .get(i + 1)
+            .and_then(|w| w.parse().ok())
+            .unwrap_or_else(|| {
+                eprintln!("compare: {name} needs a whole number");
+                std::process::exit(2)
+            }),
     }
 }
 

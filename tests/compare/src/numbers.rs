@@ -44,21 +44,62 @@ pub fn compare(report: &mut Report, seed: u64, scale: usize) {
 
 fn floats(report: &mut Report, seed: u64, scale: usize) {
     let mut random = Random::new(seed);
-    let mut one = |n: usize| -> Vec<f64> { (0..n * scale).map(|_| ask::float(&mut random)).collect() };
-    report.ask("next_up", one(MANY), |x| bits(ours::next_up(*x)), |x| bits(leaf::next_up(*x)));
-    report.ask("next_down", one(MANY), |x| bits(ours::next_down(*x)), |x| bits(leaf::next_down(*x)));
+    let mut one =
+        |n: usize| -> Vec<f64> { (0..n * scale).map(|_| ask::float(&mut random)).collect() };
+    report.ask(
+        "next_up",
+        one(MANY),
+        |x| bits(ours::next_up(*x)),
+        |x| bits(leaf::next_up(*x)),
+    );
+    report.ask(
+        "next_down",
+        one(MANY),
+        |x| bits(ours::next_down(*x)),
+        |x| bits(leaf::next_down(*x)),
+    );
     report.ask("abs", one(MANY), |x| bits(ours::abs(*x)), |x| bits(x.abs()));
-    report.ask("is_finite", one(MANY), |x| ours::is_finite(*x), |x| x.is_finite());
+    report.ask(
+        "is_finite",
+        one(MANY),
+        |x| ours::is_finite(*x),
+        |x| x.is_finite(),
+    );
     report.ask("bits_of", one(MANY), |x| ours::bits_of(*x), |x| bits(*x));
-    report.ask("square_root", one(MANY), |x| bits(ours::square_root(*x)), |x| bits(leaf::square_root(*x)));
+    report.ask(
+        "square_root",
+        one(MANY),
+        |x| bits(ours::square_root(*x)),
+        |x| bits(leaf::square_root(*x)),
+    );
     let mut random = Random::new(seed + 10);
     let patterns: Vec<_> = (0..MANY * scale).map(|_| pattern(&mut random)).collect();
-    report.ask("float_of", patterns, |b| bits(ours::float_of(*b)), |b| bits(f64::from_bits(*b)));
+    report.ask(
+        "float_of",
+        patterns,
+        |b| bits(ours::float_of(*b)),
+        |b| bits(f64::from_bits(*b)),
+    );
     let mut two = || -> Vec<[f64; 2]> { (0..MANY * scale).map(|_| pair(&mut random)).collect() };
-    report.ask("lesser", two(), |p| bits(ours::lesser(p[0], p[1])), |p| bits(leaf::lesser(p[0], p[1])));
-    report.ask("greater", two(), |p| bits(ours::greater(p[0], p[1])), |p| bits(leaf::greater(p[0], p[1])));
-    let ordered: Vec<_> = two().into_iter().filter(|p| !p.iter().any(|x| x.is_nan())).collect();
-    report.ask("before", ordered, |p| ours::before(p[0], p[1]), |p| leaf::before(p[0], p[1]));
+    report.ask(
+        "lesser",
+        two(),
+        |p| bits(ours::lesser(p[0], p[1])),
+        |p| bits(leaf::lesser(p[0], p[1])),
+    );
+    report.ask(
+        "greater",
+        two(),
+        |p| bits(ours::greater(p[0], p[1])),
+        |p| bits(leaf::greater(p[0], p[1])),
+    );
+    let ordered: Vec<_> = (0..MANY * scale).map(|_| ordered(&mut random)).collect();
+    report.ask(
+        "before",
+        ordered,
+        |p| ours::before(p[0], p[1]),
+        |p| leaf::before(p[0], p[1]),
+    );
 }
 
 /// Two numbers, often equal, opposite or neighbours.
@@ -72,13 +113,42 @@ fn pair(random: &mut Random) -> [f64; 2] {
     }
 }
 
+/// Two numbers that are no NaN.
+fn ordered(random: &mut Random) -> [f64; 2] {
+    loop {
+        let p = pair(random);
+        if !p[0].is_nan() && !p[1].is_nan() {
+            return p;
+        }
+    }
+}
+
 fn intervals(report: &mut Report, seed: u64, scale: usize) {
     let mut random = Random::new(seed);
-    let mut one = || -> Vec<[f64; 2]> { (0..MANY * scale).map(|_| ask::interval(&mut random)).collect() };
+    let mut one = || -> Vec<[f64; 2]> {
+        (0..MANY * scale)
+            .map(|_| ask::interval(&mut random))
+            .collect()
+    };
     let mut out = Ends::new();
-    report.ask("sqr", one(), |a| all(out.sqr(*a)), |a| all(ends(interval(a).sqr())));
-    report.ask("sign", one(), |a| ours::sign(*a), |a| sign_code(interval(a).sign()));
-    report.ask("holds_zero", one(), |a| ours::holds_zero(*a), |a| interval(a).contains(0.0));
+    report.ask(
+        "sqr",
+        one(),
+        |a| all(out.sqr(*a)),
+        |a| all(ends(interval(a).sqr())),
+    );
+    report.ask(
+        "sign",
+        one(),
+        |a| ours::sign(*a),
+        |a| sign_code(interval(a).sign()),
+    );
+    report.ask(
+        "holds_zero",
+        one(),
+        |a| ours::holds_zero(*a),
+        |a| interval(a).contains(0.0),
+    );
     report.ask(
         "reciprocal",
         one(),
@@ -90,11 +160,31 @@ fn intervals(report: &mut Report, seed: u64, scale: usize) {
         let pair = |r: &mut Random| [ask::interval(r), ask::interval(r)];
         (0..MANY * scale).map(|_| pair(&mut random)).collect()
     };
-    report.ask("add", two(), |p| all(out.add(p[0], p[1])), |p| all(ends(interval(&p[0]) + interval(&p[1]))));
-    report.ask("sub", two(), |p| all(out.sub(p[0], p[1])), |p| all(ends(interval(&p[0]) - interval(&p[1]))));
-    report.ask("mul", two(), |p| all(out.mul(p[0], p[1])), |p| all(ends(interval(&p[0]) * interval(&p[1]))));
+    report.ask(
+        "add",
+        two(),
+        |p| all(out.add(p[0], p[1])),
+        |p| all(ends(interval(&p[0]) + interval(&p[1]))),
+    );
+    report.ask(
+        "sub",
+        two(),
+        |p| all(out.sub(p[0], p[1])),
+        |p| all(ends(interval(&p[0]) - interval(&p[1]))),
+    );
+    report.ask(
+        "mul",
+        two(),
+        |p| all(out.mul(p[0], p[1])),
+        |p| all(ends(interval(&p[0]) * interval(&p[1]))),
+    );
     let few = two().into_iter().take(100);
-    report.ask("short slices left alone", few, |p| Ends::leaves_short_alone(p[0], p[1]), |_| true);
+    report.ask(
+        "short slices left alone",
+        few,
+        |p| Ends::leaves_short_alone(p[0], p[1]),
+        |_| true,
+    );
 }
 
 fn points(report: &mut Report, seed: u64, scale: usize) {
@@ -106,8 +196,15 @@ fn points(report: &mut Report, seed: u64, scale: usize) {
         |t| ours::orient2d(t[0], t[1], t[2]),
         |t| sign_code(leaf::orient2d(t[0], t[1], t[2])),
     );
-    let vectors: Vec<_> = (0..MANY * scale).map(|_| [(); 3].map(|()| ask::float(&mut random))).collect();
-    report.ask("length", vectors, |v| bits(ours::length(*v)), |v| bits(length(v)));
+    let vectors: Vec<_> = (0..MANY * scale)
+        .map(|_| [(); 3].map(|()| ask::float(&mut random)))
+        .collect();
+    report.ask(
+        "length",
+        vectors,
+        |v| bits(ours::length(*v)),
+        |v| bits(length(v)),
+    );
     let near: Vec<_> = (0..MANY * scale).map(|_| near(&mut random)).collect();
     report.ask(
         "near",
@@ -133,5 +230,11 @@ fn length(v: &[f64; 3]) -> f64 {
 fn near(random: &mut Random) -> (Tolerances, [[f64; 3]; 2]) {
     let t = gen::jobs::tolerances(random);
     let q = ask::near(random, &t);
-    (Tolerances { linear: t.linear, local: t.local }, q)
+    (
+        Tolerances {
+            linear: t.linear,
+            local: t.local,
+        },
+        q,
+    )
 }

@@ -37,8 +37,16 @@ impl Report {
     pub fn finish(self) -> bool {
         let asked: usize = self.lines.iter().map(|l| l.1).sum();
         let differ: usize = self.lines.iter().map(|l| l.2).sum();
-        let empty: Vec<_> = self.lines.iter().filter(|l| l.1 == 0).map(|l| &l.0).collect();
-        println!("compare: {} questions, {asked} asked, {differ} differ", self.lines.len());
+        let empty: Vec<_> = self
+            .lines
+            .iter()
+            .filter(|l| l.1 == 0)
+            .map(|l| &l.0)
+            .collect();
+        println!(
+            "compare: {} questions, {asked} asked, {differ} differ",
+            self.lines.len()
+        );
         if !empty.is_empty() {
             println!("compare: never asked: {empty:?}");
         }

@@ -2,7 +2,14 @@
 use std::{ffi::c_void, mem, ptr, slice};
 
 extern "C" {
-    fn mmap(at: *mut c_void, size: usize, prot: i32, flags: i32, fd: i32, offset: i64) -> *mut c_void;
+    fn mmap(
+        at: *mut c_void,
+        size: usize,
+        prot: i32,
+        flags: i32,
+        fd: i32,
+        offset: i64,
+    ) -> *mut c_void;
     fn mprotect(at: *mut c_void, size: usize, prot: i32) -> i32;
     fn munmap(at: *mut c_void, size: usize) -> i32;
 }
@@ -26,13 +33,23 @@ impl<T: Copy> Guarded<T> {
         let size = bytes.div_ceil(PAGE) * PAGE + PAGE;
         // SAFETY: fresh anonymous pages, of which the last is closed; the values end where it begins.
         unsafe {
-            let base = mmap(ptr::null_mut(), size, READ_WRITE, PRIVATE_ANONYMOUS, -1, 0).cast::<u8>();
+            let base =
+                mmap(ptr::null_mut(), size, READ_WRITE, PRIVATE_ANONYMOUS, -1, 0).cast::<u8>();
             assert!(base as isize != -1, "no memory for a guarded slice");
             let end = base.add(size - PAGE);
-            assert_eq!(mprotect(end.cast(), PAGE, NOTHING), 0, "the guard page cannot be closed");
+            assert_eq!(
+                mprotect(end.cast(), PAGE, NOTHING),
+                0,
+                "the guard page cannot be closed"
+            );
             let at = end.sub(bytes).cast::<T>();
             ptr::copy_nonoverlapping(values.as_ptr(), at, values.len());
-            Guarded { base, size, at, n: values.len() }
+            Guarded {
+                base,
+                size,
+                at,
+                n: values.len(),
+            }
         }
     }
 
