@@ -142,7 +142,7 @@ pub fn sign_of(a: Interval) -> Sign
 pub fn reciprocal(a: Interval) -> Inverse
     ensures { λ r. ⌜ r ≡ inverseOf a ⌝ }
 {
-    if a.lo > 0.0 {
+    if 0.0 < a.lo {
         return Inverse::Value(outward(1.0 / a.hi, 1.0 / a.lo));
     }
     Inverse::Nothing
