@@ -1,14 +1,13 @@
 -- Facts that several proofs of the crate cite. Assumes nothing.
 use mathlib.Core.Path.{_≡_, refl, sym, ap, _∙_, subst}
-use mathlib.Core.Bool.{Bool, true, false, not, _&&_, _||_, Bool·beq, cond}
+use mathlib.Core.Bool.{Bool, true, false, not, _&&_, Bool·beq, cond}
 use Prim.Native.Nat.{ℕ, zero, suc, _+_, _-_, _*_, _/_, _%_, _^_, _≤_, _<_}
 use native.Mathlib.Omega.{arith}
 use borrow.Author.Tests.{lt-leb, le-leb, lt-ltb}
-use lib.Dec.{T, ltb, eqb, leb, eqb-refl, not-T, T-not, ltb→lt, nltb→le, lt→ltb, eqb→eq}
-use lib.IntN.{ℤ}
-use lib.Ieee.{Format, emax, round, units, odd, Float, nan, inf, fin, up, down, prec, hid, low, size, binary64, isNan, ne, eq, nanBits, toBits, ofBits, fits, neg, sub, add, sum}
+use lib.Dec.{T, ltb, eqb, leb, eqb-refl, not-T, T-not, ltb→lt, nltb→le, eqb→eq}
+use lib.Ieee.{Format, emax, round, units, odd, Float, nan, inf, fin, up, down, prec, low, binary64, isNan, ne, eq, nanBits, toBits, ofBits, fits, neg, sub, sum}
 use lib.Ieee.Fits.{neg-fits, eq→eqb, round-is}
-use lib.Ieee.Bits.{is-true, is-false, nanBits-above, nanBits-is, ofBits-toBits, toBits-lt}
+use lib.Ieee.Bits.{is-true, nanBits-above, nanBits-is, ofBits-toBits, toBits-lt}
 use Rattle.float.specs.Float.{infBits, signBit, nextBits, nextUp, negative, finite, abs}
 
 -- a value differs from itself exactly if it is a NaN

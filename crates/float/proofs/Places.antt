@@ -1,8 +1,8 @@
 -- Each value of binary64 that is no NaN has a place in one row, from -infinity to +infinity; both zeros have the same. Comparisons are comparisons of places, and nextUp goes one place up. Assumes nothing.
 use mathlib.Core.Path.{_≡_, refl, sym, ap, _∙_, subst}
 use mathlib.Core.Logic.{_⊎_, inl, inr}
-use mathlib.Core.Bool.{Bool, true, false, not, _&&_, _||_, Bool·beq, cond, and-true, and-false}
-use Prim.Native.Nat.{ℕ, zero, suc, _+_, _-_, _*_, _/_, _%_, _^_, _≤_, _<_, zero-le}
+use mathlib.Core.Bool.{Bool, true, false, not, _&&_, Bool·beq, _||_, cond, and-true, and-false}
+use Prim.Native.Nat.{ℕ, _+_, _-_, _*_, _%_, _^_, _≤_, _<_}
 use native.Mathlib.Nat.{le-trans, le-of-eq, le-of-lt, eq-or-lt-of-le, mul-assoc, mul-comm, mul-right-comm, mul-le-mul-right, le-of-mul-le-mul-right, mul-pos, le-antisymm, lt-irrefl, not-le-of-lt, lt-of-not-le, zero-mul}
 use native.Mathlib.Omega.{arith}
 use borrow.Author.Tests.{lt-ltb, le-ltb, le-leb, lt-leb, eq-eqb, ne-eqb}
@@ -12,7 +12,6 @@ use lib.IntN.{ℤ}
 use lib.Ieee.{Float, nan, inf, fin, binary64, up, down, below, level, isNan, lt, eq, le, neg, fits, toBits, ofBits}
 use lib.Ieee.Fits.{down-pos, eq→eqb, neg-fits}
 use lib.Ieee.Bits.{is-false, nanBits-is, ofBits-fits, toBits-ofBits, toBits-lt, ofBits-toBits}
-use lib.Ieee.Exact.{HasValue}
 use Rattle.float.specs.Float.{infBits, signBit, nextBits, nextUp, nextDown, negative, finite, before}
 use Rattle.float.specs.Exact.{plus, minus}
 use Rattle.float.proofs.Facts.{plain-back, bits-plain, sign-bit, next-step, next-plain}

@@ -2,24 +2,22 @@
 use mathlib.Core.Path.{_≡_, refl, sym, ap, _∙_, subst}
 use mathlib.Core.Logic.{_⊎_, inl, inr}
 use mathlib.Core.Bool.{Bool, true, false, not, cond}
-use Prim.Native.Nat.{ℕ, zero, suc, _+_, _-_, _*_, _^_, _≤_, _<_}
-use native.Mathlib.Nat.{le-trans, add-comm, suc-mul, le-of-eq, mul-pos, mul-assoc, mul-comm, mul-right-comm, mul-le-mul-right, le-of-mul-le-mul-right}
+use Prim.Native.Nat.{ℕ, zero, suc, _+_, _*_, _^_, _≤_, _<_}
+use native.Mathlib.Nat.{le-trans, add-comm, suc-mul, le-of-eq, mul-le-mul-right, le-of-mul-le-mul-right}
 use native.Mathlib.Omega.{arith}
 use lib.Dec.{T}
 use lib.Pow.{pow-pos}
-use lib.IntN.{ℤ, pos}
-use lib.Ieee.{Float, nan, inf, fin, binary64, isNan, round, odd, units, le, lt, fits, neg, add, sub, toBits, ofBits}
+use lib.IntN.{pos}
+use lib.Ieee.{Float, nan, inf, fin, binary64, isNan, round, le, lt, fits, neg, add, sub, toBits, ofBits}
 use lib.Ieee.Bits.{ofBits-fits}
-use lib.Ieee.Fits.{round-is, round-fits, add-fits, neg-fits}
-use lib.Ieee.Exact.{HasValue, round-exact}
+use lib.Ieee.Fits.{round-fits, add-fits, neg-fits}
 use lib.Ieee.Order.{round-mono}
 use lib.Ieee.Scale.{round-same}
-use Rattle.float.specs.Float.{infBits, signBit, finite}
+use Rattle.float.specs.Float.{signBit, finite}
 use Rattle.float.specs.Exact.{plus, minus}
 use Rattle.float.proofs.Facts.{no, round-no-nan}
-use Rattle.float.proofs.Steps.{val, placed, placed-val}
-use Rattle.float.proofs.Rounded.{Rounded, Added, added, other, round-neg, neg-finite, neg-plus}
-use Rattle.float.proofs.Places.{place, placeOf, spot, fin-place, inf-place, place-least, place-most, kind, within, Number, le-of, le-at, lt-of, lt-at, lt-numbers, neg-number, number-neg, neg-place, positive-place, negative-place, side, place-units}
+use Rattle.float.proofs.Rounded.{Rounded, added, other, round-neg, neg-finite, neg-plus}
+use Rattle.float.proofs.Places.{place, placeOf, inf-place, place-least, place-most, kind, within, Number, le-of, le-at, lt-of, neg-number, number-neg, neg-place, positive-place, negative-place, side, place-units}
 
 rounds : (s : Bool) (a c : ℕ) → Number (round binary64 s a c)
 rounds s a c = record { held = round-fits binary64 s a c; real = no (round-no-nan binary64 s a c) }

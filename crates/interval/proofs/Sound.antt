@@ -1,12 +1,12 @@
 -- Where the operands hold the exact numbers, the stepped sum holds the exact sum. Assumes nothing.
-use mathlib.Core.Path.{_≡_, refl, sym, ap, _∙_, subst}
-use mathlib.Core.Bool.{Bool, true, false, _||_, cond}
-use Prim.Native.Nat.{ℕ, _+_, _≤_}
+use mathlib.Core.Path.{_≡_, refl, sym, subst}
+use mathlib.Core.Bool.{false}
+use Prim.Native.Nat.{ℕ, _+_}
 use native.Mathlib.Omega.{arith}
 use lib.Dec.{T}
 use lib.Ieee.{Float, nan, inf, fin, binary64, isNan, fits, add}
 use Rattle.float.specs.Float.{nextUp, nextDown, finite}
-use Rattle.float.specs.Exact.{plus, minus, AtMost, AtLeast}
+use Rattle.float.specs.Exact.{AtMost, AtLeast}
 use Rattle.float.proofs.Rounded.{add-up, add-down}
 use Rattle.interval.specs.declared.Interval.{Interval}
 use Rattle.interval.specs.Ends.{addI}

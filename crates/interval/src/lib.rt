@@ -1,16 +1,17 @@
 // Intervals of f64 and three-element arrays of them. Each contract is one equation with a
-// definition of `specs/`.
+// definition of `specs/`; `proofs/Laws.antt` has the laws that callers cite.
 ghost use mathlib.Core.Path.{_≡_};
 ghost use mathlib.Core.Bool.{cond};
 ghost use Rattle.float.specs.Float.{greater};
 ghost use Rattle.interval.specs.Ends.{zero, whole, pointI, outward, addI, subI, hullOf, mulI, contains, holdsZero, squareOf, sqrI, signOf, inverseOf};
-ghost use Rattle.interval.specs.Box.{dotI, dot0, differenceI, residualI, minorI, crossI};
+ghost use Rattle.interval.specs.Box.{dotI, dot0, differenceI, residualI, crossI};
 
 pub struct Interval {
     pub lo: f64,
     pub hi: f64,
 }
 
+// What is certain of an interval's sign; `Unknown` where neither sign is, nor zero.
 pub enum Sign {
     Positive,
     Negative,
@@ -18,6 +19,7 @@ pub enum Sign {
     Unknown,
 }
 
+// A reciprocal; `Nothing` where the interval is not certainly positive.
 pub enum Inverse {
     Value(Interval),
     Nothing,
@@ -142,7 +144,7 @@ pub fn sign_of(a: Interval) -> Sign
 pub fn reciprocal(a: Interval) -> Inverse
     ensures { λ r. ⌜ r ≡ inverseOf a ⌝ }
 {
-    if a.lo > 0.0 {
+    if 0.0 < a.lo {
         return Inverse::Value(outward(1.0 / a.hi, 1.0 / a.lo));
     }
     Inverse::Nothing
