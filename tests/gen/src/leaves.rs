@@ -2,7 +2,7 @@
 use crate::facets::plane;
 use crate::random::Random;
 use crate::solid::{add, ball, cube, gem, prism, scale, tetrahedron, Reshape};
-use oracle::{Plane, Point, Solid, Tolerances};
+use oracle::{leaf, Cell, Face, Plane, Point, Solid, Tolerances};
 
 // ---- numbers
 
@@ -45,6 +45,28 @@ pub fn stepped(random: &mut Random, mut x: f64, most: usize) -> f64 {
         x = if up { x.next_up() } else { x.next_down() };
     }
     x
+}
+
+/// Two neighbouring numbers between `low` and `high`, not negative, at which the answer changes.
+pub fn flip<A: PartialEq>(low: f64, high: f64, ask: impl Fn(f64) -> A) -> [f64; 2] {
+    let (mut a, mut b) = (low.to_bits(), high.to_bits());
+    let first = ask(low);
+    while b - a > 1 {
+        let middle = a + (b - a) / 2;
+        match ask(f64::from_bits(middle)) == first {
+            true => a = middle,
+            false => b = middle,
+        }
+    }
+    [f64::from_bits(a), f64::from_bits(b)]
+}
+
+/// From 0 to local, or from there to twice local: an answer changes in each.
+fn around_local(random: &mut Random, t: &Tolerances) -> [f64; 2] {
+    match random.coin() {
+        true => [0.0, t.local],
+        false => [t.local, 2.0 * t.local],
+    }
 }
 
 /// Any f64: special ones and their neighbours, random patterns, plain sizes, a NaN now and then.
@@ -168,6 +190,18 @@ pub fn near(random: &mut Random, t: &Tolerances) -> [Point; 2] {
     [a, add(a, scale(unit, far))]
 }
 
+/// Two points as far apart as the answer's change, on either side of it.
+pub fn near_edge(random: &mut Random, t: &Tolerances) -> [[Point; 2]; 2] {
+    let unit = match random.coin() {
+        true => random.pick(&UNITS),
+        false => random.direction(),
+    };
+    let pair = |far: f64| [[0.0; 3], scale(unit, far)];
+    let [low, high] = around_local(random, t);
+    let ask = |far: f64| leaf::near(t, &pair(far)[0], &pair(far)[1]);
+    flip(low, high, ask).map(pair)
+}
+
 /// Points in a row, neighbours about a share of local apart: near is not transitive among them.
 pub fn chain(random: &mut Random, t: &Tolerances) -> Vec<Point> {
     let mut at = place(random);
@@ -224,6 +258,15 @@ pub fn side(random: &mut Random, t: &Tolerances) -> (Plane, Point) {
     };
     let (u, v) = (random.signed(), random.signed());
     (plane, over(&plane, u, v, height))
+}
+
+/// A plane and a height at which the answer changes, on either side of the change.
+pub fn side_edge(random: &mut Random, t: &Tolerances) -> [(Plane, Point); 2] {
+    let plane = plane(random, [0.0; 3]);
+    let (u, v) = (random.signed() * t.local, random.signed() * t.local);
+    let at = |height: f64| (plane, over(&plane, u, v, height));
+    let [low, high] = around_local(random, t);
+    flip(low, high, |h| leaf::side(t, &plane, &at(h).1)).map(at)
 }
 
 /// A plane and points on it: ties, straight runs, near ones, zeros of both signs.
@@ -309,6 +352,88 @@ pub fn edges(random: &mut Random, t: &Tolerances) -> (Vec<Point>, Vec<usize>) {
         polygon[2] = random.below(points.len());
     }
     (points, polygon)
+}
+
+/// An edge and a point off its middle, on either side of the change of the answer. The edge lies
+/// level and the point above it, so that a part of their cross product is nearly zero.
+pub fn edges_edge(random: &mut Random, t: &Tolerances) -> [(Vec<Point>, Vec<usize>); 2] {
+    let level = |r: &mut Random| [r.signed(), r.signed(), 0.0];
+    let (a, b) = (level(random), level(random));
+    let middle = scale(add(a, b), 0.5);
+    let at = |up: f64| {
+        let points = vec![a, b, [0.0, 0.0, -4.0], add(middle, [0.0, 0.0, up])];
+        (points, vec![0, 1, 2])
+    };
+    let [low, high] = around_local(random, t);
+    let ask = |up: f64| {
+        let (points, polygon) = at(up);
+        leaf::conform(t, &points, &polygon)
+    };
+    flip(low, high, ask).map(at)
+}
+
+/// A box whose edges are shares of local, its points in any order: near and unresolved pairs.
+pub fn close_solid(random: &mut Random) -> (Tolerances, Solid) {
+    let t = Tolerances {
+        linear: 1.0 / (1u64 << 40) as f64,
+        local: 0.0625,
+    };
+    let edges = [(); 3].map(|()| random.pick(&[0.5, 1.0, 1.5, 16.0]) * t.local);
+    let solid = crate::solid::cuboid([0.0; 3], edges);
+    (t, solid.reordered(random))
+}
+
+/// The plane z = 0.
+const LEVEL: Plane = [0.0, 0.0, 0.0, 1.0, 0.0, 0.0, 0.0, 1.0, 0.0, 0.0, 0.0, 1.0];
+
+fn level_face(points: Vec<Point>) -> Face {
+    Face {
+        plane: LEVEL,
+        points,
+    }
+}
+
+/// A level polygon across x = 0 with an unresolved pair on one side, and a face there to carve it
+/// by: the piece and the remainder are refused with different numbers.
+pub fn carve(random: &mut Random, t: &Tolerances) -> [Cell; 2] {
+    let far = random.pick(&[-1.0, 1.0]);
+    let mut points = vec![
+        [-far, 0.0, 0.0],
+        [far, -1.0, 0.0],
+        [far, 0.0, 0.0],
+        [far, t.local, 0.0],
+        [far, 1.0, 0.0],
+    ];
+    points.rotate_left(random.below(5));
+    let plane = axis_plane(0, 0.0, random.coin());
+    let by = Face {
+        plane,
+        points: vec![[0.0; 3]; 3],
+    };
+    [vec![level_face(points)], vec![by]]
+}
+
+/// Level zigzags across x = 0 with about as many corners, cap points and faces as a cut may have.
+pub fn limits() -> Vec<(Cell, Plane)> {
+    let zigzag = |n: usize| {
+        let corner = |i: usize| [if i.is_multiple_of(2) { -1.0 } else { 1.0 }, i as f64, 0.0];
+        level_face((0..n).map(corner).collect())
+    };
+    let row = |n: usize| level_face((0..n).map(|i| [-1.0, i as f64, 0.0]).collect());
+    let across = axis_plane(0, 0.0, true);
+    let beyond = axis_plane(0, 5.0, true);
+    let mut out = Vec::new();
+    for n in [126, 127, 128, 129, 130] {
+        out.push((vec![row(n), zigzag(4)], across));
+        out.push((vec![row(n)], beyond));
+        out.push((vec![zigzag(4); n], across));
+        out.push((vec![zigzag(4); n], beyond));
+        out.push((vec![zigzag(8); n], across));
+    }
+    for n in [82, 84, 86, 88] {
+        out.push((vec![zigzag(n)], across));
+    }
+    out
 }
 
 /// Neighbours of each place, each pair both ways, some more than once.

@@ -222,6 +222,40 @@ fn arrangements() {
 }
 
 #[test]
+fn answers_change_at_their_edges() {
+    let mut random = Random::new(5);
+    for _ in 0..500 {
+        let t = jobs::tolerances(&mut random);
+        let [a, b] = leaves::near_edge(&mut random, &t);
+        assert_ne!(leaf::near(&t, &a[0], &a[1]), leaf::near(&t, &b[0], &b[1]));
+        let [a, b] = leaves::side_edge(&mut random, &t);
+        assert_ne!(leaf::side(&t, &a.0, &a.1), leaf::side(&t, &b.0, &b.1));
+        let [a, b] = leaves::edges_edge(&mut random, &t);
+        let ends = [&a, &b].map(|q| leaf::conform(&t, &q.0, &q.1));
+        assert_ne!(ends[0], ends[1]);
+    }
+}
+
+#[test]
+fn pieces_before_remainders_and_pairs_in_order() {
+    let met = numbers(100, |random| {
+        let [a, b] = leaves::carve(random, &T);
+        number(&leaf::difference(&T, None, &a, &b))
+    });
+    assert_eq!(met, BTreeSet::from([6, 10]));
+    let met = numbers(400, |random| {
+        let (t, solid) = leaves::close_solid(random);
+        number(&leaf::check(&t, &solid, true))
+    });
+    require(&met, &[0, 4, 6]);
+    let limits = leaves::limits();
+    let cut =
+        |(cell, plane): &(Cell, oracle::Plane)| number(&leaf::clip(&T, Some(100_000), cell, plane));
+    let full = limits.iter().map(cut).filter(|&n| n == 12).count();
+    assert!(full > 0 && full < limits.len());
+}
+
+#[test]
 fn graphs_and_cycles() {
     let mut random = Random::new(3);
     let mut same = 0;
