@@ -1,5 +1,6 @@
 -- Laws of rooms: what was stored is read back, and what is stored behind it lengthens it.
-use mathlib.Core.Path.{_≡_, refl, sym, ap, _∙_}
+use mathlib.Core.Path.{_≡_, refl, sym, ap, _∙_, subst}
+use mathlib.Core.Logic.{_⊎_, inl, inr}
 use mathlib.Core.List.{List, [], _∷_, _++_, append-assoc, append-nil}
 use Prim.Native.Nat.{ℕ, zero, suc, _+_, _-_, _*_, _≤_, _<_}
 use native.Mathlib.Omega.{arith}
@@ -17,7 +18,7 @@ use Rattle.lists.specs.Laws.{next, done, pad-set}
 use Rattle.polygon.specs.declared.Polygon.{Polygon}
 use Rattle.polygon.specs.Polygons.{padded, polygon}
 use Rattle.polygon.specs.Memory.{floats, floatsOf, pointAt, pointsAt}
-use Rattle.room.specs.Rooms.{planeFloats, planeAt, faceFloats, cellFloats, cellCounts, faceAt, cellAt, countsAt, Within, All, Small}
+use Rattle.room.specs.Rooms.{planeFloats, planeAt, faceFloats, cellFloats, cellCounts, faceAt, cellAt, countsAt, Within, All, In, Small}
 
 -- ---- runs of stores
 
@@ -185,6 +186,10 @@ within-stored (f ∷ c) at m a h =
 
 -- ---- every element
 
+pub all-none : {A : Type 0} (p : A → Type 0) → All p []
+unfolding All
+all-none p = tt
+
 pub all-snoc : {A : Type 0} (p : A → Type 0) (l : List A) (x : A) → All p l → p x → All p (l ++ (x ∷ []))
 unfolding All
 all-snoc p [] x a h = (h, tt)
@@ -194,6 +199,22 @@ pub all-map : {A : Type 0} (p q : A → Type 0) (l : List A) → ((x : A) → p 
 unfolding All
 all-map p q [] f a = tt
 all-map p q (x ∷ l) f a = (f x (a .0), all-map p q l f (a .1))
+
+pub all-both : {A : Type 0} (p q r : A → Type 0) (l : List A) → ((x : A) → p x → q x → r x) → All p l → All q l → All r l
+unfolding All
+all-both p q r [] f a b = tt
+all-both p q r (x ∷ l) f a b = (f x (a .0) (b .0), all-both p q r l f (a .1) (b .1))
+
+pub all-in : {A : Type 0} (p : A → Type 0) (l : List A) → ((x : A) → In x l → p x) → All p l
+unfolding All In
+all-in p [] f = tt
+all-in p (x ∷ l) f = (f x (inl refl), all-in p l (λ y h. f y (inr h)))
+
+pub all-at : {A : Type 0} (p : A → Type 0) (l : List A) → All p l → (x : A) → In x l → p x
+unfolding All In
+all-at p [] a x h = absurd h
+all-at p (y ∷ l) a x (inl e) = subst p (sym e) (a .0)
+all-at p (y ∷ l) a x (inr h) = all-at p l (a .1) x h
 
 -- ---- what was stored is read back
 

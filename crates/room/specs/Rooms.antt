@@ -1,4 +1,6 @@
 -- How faces and cells lie in lent slices, and how they are read from them. Definitions only.
+use mathlib.Core.Path.{_≡_}
+use mathlib.Core.Logic.{_⊎_}
 use mathlib.Core.List.{List, [], _∷_, _++_}
 use Prim.Native.Nat.{ℕ, _+_, _*_, _≤_}
 use lib.ListN.{length, take, drop}
@@ -48,6 +50,11 @@ Within (n ∷ ns) at m = (n ≤ 128) × Within ns (at + 12 + 3 * n) m
 unfoldable pub All : {A : Type 0} → (A → Type 0) → List A → Type 0
 All p [] = Unit {0}
 All p (x ∷ l) = p x × All p l
+
+-- x is one of the elements
+unfoldable pub In : {A : Type 0} → A → List A → Type 0
+In x [] = ⊥
+In x (y ∷ l) = (x ≡ y) ⊎ In x l
 
 -- no face has more than 128 corners
 abbrev pub Small : Cell → Type 0
