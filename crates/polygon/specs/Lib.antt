@@ -1,2 +1,4 @@
 pub mod Polygons
+pub mod Memory
+pub mod Unique
 pub mod Laws

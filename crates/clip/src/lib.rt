@@ -1,0 +1,1 @@
+// The part of a convex cell below a plane.
