@@ -1,0 +1,2 @@
+pub mod Simple
+pub mod Laws
