@@ -1,13 +1,19 @@
--- The two ways through `put`.
+-- The two ways through each function that looks whether a slice is long enough.
 use mathlib.Core.Path.{_≡_, refl, sym, ap, _∙_}
 use mathlib.Core.Bool.{cond}
 use mathlib.Core.List.{List}
 use Prim.Native.Nat.{ℕ, _≤_, _<_}
 use lib.ListN.{length, set}
+use lib.Seq.{sets}
 use lib.Ieee.{Float}
-use borrow.Author.Tests.{lt-leb, le-leb}
+use borrow.Author.Tests.{lt-leb, le-leb, lt-ltb, le-ltb}
 use Rattle.interval.specs.declared.Interval.{Interval}
-use Rattle.leaves.specs.Codes.{stored}
+use Rattle.space.specs.declared.Point3.{Point3}
+use Rattle.space.specs.declared.Plane.{Plane}
+use Rattle.space.specs.Vector.{origin}
+use Rattle.polygon.specs.Memory.{floats, pointAt}
+use Rattle.room.specs.Rooms.{planeFloats, planeAt}
+use Rattle.leaves.specs.Codes.{stored, pointBy, planeBy, pointStored, planeStored}
 
 pub fits : (s : List Float) (i : Interval) → 2 ≤ length s → set (set s 0 (i .lo)) 1 (i .hi) ≡ stored s i
 unfolding stored
@@ -16,3 +22,38 @@ fits s i h = sym (ap (λ b. cond b (set (set s 0 (i .lo)) 1 (i .hi)) s) (le-leb 
 pub short : (s : List Float) (i : Interval) → length s < 2 → s ≡ stored s i
 unfolding stored
 short s i h = sym (ap (λ b. cond b (set (set s 0 (i .lo)) 1 (i .hi)) s) (lt-leb _ _ h))
+
+pub point-fits : (s : List Float) (p : Point3) → 3 ≤ length s → sets s 0 (floats p) ≡ pointStored s p
+unfolding pointStored
+point-fits s p h = sym (ap (λ b. cond b (sets s 0 (floats p)) s) (le-leb _ _ h))
+
+pub point-short : (s : List Float) (p : Point3) → length s < 3 → s ≡ pointStored s p
+unfolding pointStored
+point-short s p h = sym (ap (λ b. cond b (sets s 0 (floats p)) s) (lt-leb _ _ h))
+
+pub plane-fits : (s : List Float) (w : Plane) → 12 ≤ length s → sets s 0 (planeFloats w) ≡ planeStored s w
+unfolding planeStored
+plane-fits s w h = sym (ap (λ b. cond b (sets s 0 (planeFloats w)) s) (le-leb _ _ h))
+
+pub plane-short : (s : List Float) (w : Plane) → length s < 12 → s ≡ planeStored s w
+unfolding planeStored
+plane-short s w h = sym (ap (λ b. cond b (sets s 0 (planeFloats w)) s) (lt-leb _ _ h))
+
+pub point-read : (s : List Float) → 3 ≤ length s → pointAt s 0 ≡ pointBy s
+unfolding pointBy
+point-read s h = sym (ap (λ b. cond b origin (pointAt s 0)) (le-ltb _ _ h))
+
+pub point-none : (s : List Float) → length s < 3 → origin ≡ pointBy s
+unfolding pointBy
+point-none s h = sym (ap (λ b. cond b origin (pointAt s 0)) (lt-ltb _ _ h))
+
+abbrev pub flat : Plane
+flat = record { frame = record { origin = origin; x = origin; y = origin; z = origin } }
+
+pub plane-read : (s : List Float) → 12 ≤ length s → planeAt s 0 ≡ planeBy s
+unfolding planeBy
+plane-read s h = sym (ap (λ b. cond b flat (planeAt s 0)) (le-ltb _ _ h))
+
+pub plane-none : (s : List Float) → length s < 12 → flat ≡ planeBy s
+unfolding planeBy
+plane-none s h = sym (ap (λ b. cond b flat (planeAt s 0)) (lt-ltb _ _ h))

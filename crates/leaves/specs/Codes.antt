@@ -3,7 +3,7 @@ use Prim.Native.Nat.{ℕ}
 use mathlib.Core.Bool.{Bool, true, false, cond}
 use mathlib.Core.List.{List, [], _∷_}
 use lib.ListN.{length, set}
-use lib.Dec.{leb}
+use lib.Dec.{leb, ltb}
 use lib.Ieee.{Float}
 use Rattle.refusal.specs.declared.Refusal.{Refusal}
 use Rattle.interval.specs.declared.Interval.{Interval}
@@ -17,6 +17,16 @@ use Rattle.space.specs.declared.Closeness.{Closeness}
 use Rattle.space.specs.declared.Closeness.the-variants as C
 use Rattle.side.specs.declared.Side.{Side}
 use Rattle.side.specs.declared.Side.the-variants as D
+use Rattle.turns.specs.declared.Turn.{Turn as Bend}
+use Rattle.turns.specs.declared.Turn.the-variants as B
+use Rattle.turns.specs.declared.Projected.{Projected}
+use Rattle.refusal.specs.Outcome.{Outcome, ok, refused}
+use Rattle.space.specs.declared.Point3.{Point3}
+use Rattle.space.specs.declared.Plane.{Plane}
+use Rattle.space.specs.Vector.{origin}
+use Rattle.polygon.specs.Memory.{floats, pointAt}
+use Rattle.room.specs.Rooms.{planeFloats, planeAt}
+use lib.Seq.{sets}
 
 -- the two ends, where there is room for them
 unfoldable pub stored : List Float → Interval → List Float
@@ -55,3 +65,30 @@ sideCode D.Positive = 1
 sideCode D.Negative = 2
 sideCode D.Zero = 0
 sideCode (D.Refused r) = r .number
+
+abbrev pub bendCode : Bend → ℕ
+bendCode B.Positive = 1
+bendCode B.Negative = 2
+bendCode B.Zero = 0
+bendCode (B.Refused r) = r .number
+
+-- the point and the plane that a slice begins with; zeros where it is too short
+unfoldable pub pointBy : List Float → Point3
+pointBy s = cond (ltb (length s) 3) origin (pointAt s 0)
+
+unfoldable pub planeBy : List Float → Plane
+planeBy s = cond (ltb (length s) 12) (record { frame = record { origin = origin; x = origin; y = origin; z = origin } }) (planeAt s 0)
+
+-- a point and a plane, where there is room for them
+unfoldable pub pointStored : List Float → Point3 → List Float
+pointStored s p = cond (leb 3 (length s)) (sets s 0 (floats p)) s
+
+unfoldable pub planeStored : List Float → Plane → List Float
+planeStored s w = cond (leb 12 (length s)) (sets s 0 (planeFloats w)) s
+
+unfoldable pub planedStored : List Float → Outcome Plane → List Float
+planedStored s (ok w) = planeStored s w
+planedStored s (refused r) = s
+
+abbrev pub shadow : Float → Float → Float → Float → Projected
+shadow xl xh yl yh = record { x = record { lo = xl; hi = xh }; y = record { lo = yl; hi = yh } }

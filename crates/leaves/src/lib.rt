@@ -7,8 +7,10 @@ use side::Side;
 use space::Closeness;
 use space::Frame;
 use space::Plane;
+use space::Planed;
 use space::Point3;
 use space::Precision;
+use turns::Projected;
 ghost use mathlib.Core.Path.{_≡_};
 ghost use Prim.Native.Nat.{_≤_};
 ghost use lib.Ieee.{binary64, toBits, ofBits};
@@ -17,9 +19,12 @@ ghost use Rattle.root.specs.Root.{sqrtOf};
 ghost use Rattle.exact.specs.Orient.{orientOf};
 ghost use Rattle.interval.specs.Ends.{addI, subI, mulI, sqrI, signOf, inverseOf, holdsZero};
 ghost use Rattle.space.specs.Vector.{lengthV};
+ghost use Rattle.space.specs.Frames.{planed, planeOf, localOf};
 ghost use Rattle.space.specs.Near.{nearOf};
-ghost use Rattle.side.specs.Sides.{distanceOf, sideOf};
-ghost use Rattle.leaves.specs.Codes.{stored, yes, signCode, turnCode, inverted, closeCode, sideCode};
+ghost use Rattle.side.specs.Sides.{distanceOf, sideOf, oppositeOf};
+ghost use Rattle.turns.specs.Turns.{orientationOf, inRange};
+ghost use Rattle.refusal.specs.Outcome.{numberOf};
+ghost use Rattle.leaves.specs.Codes.{stored, yes, signCode, turnCode, inverted, closeCode, sideCode, bendCode, pointBy, planeBy, pointStored, planeStored, planedStored, shadow};
 
 fn put(out: &mut [f64], i: Interval)
     ensures { λ _. ⌜ now (out .exit) ≡ stored (now (out .entry)) i ⌝ }
@@ -253,4 +258,188 @@ pub extern "C" fn leaf_near(ax: f64, ay: f64, az: f64, bx: f64, by: f64, bz: f64
             z: bz,
         },
     ))
+}
+
+fn bend_code(t: turns::Turn) -> u64
+    ensures { λ r. ⌜ r ≡ bendCode t ⌝ }
+{
+    match t {
+        turns::Turn::Positive => 1,
+        turns::Turn::Negative => 2,
+        turns::Turn::Zero => 0,
+        turns::Turn::Refused(r) => r.number,
+    }
+}
+
+// The point and the plane that a slice begins with; zeros where it is too short.
+fn point_by(s: &[f64]) -> Point3
+    ensures { λ r. ⌜ r ≡ pointBy (now (s .entry)) ⌝ }
+{
+    if s.len() < 3 {
+        return Point3 {
+            x: 0.0,
+            y: 0.0,
+            z: 0.0,
+        };
+    }
+    polygon::get_point(s, 0)
+}
+
+fn plane_by(s: &[f64]) -> Plane
+    ensures { λ r. ⌜ r ≡ planeBy (now (s .entry)) ⌝ }
+{
+    let o = Point3 {
+        x: 0.0,
+        y: 0.0,
+        z: 0.0,
+    };
+    if s.len() < 12 {
+        let frame = Frame {
+            origin: o,
+            x: o,
+            y: o,
+            z: o,
+        };
+        return Plane { frame };
+    }
+    room::get_plane(s, 0)
+}
+
+fn put_point(out: &mut [f64], p: Point3)
+    ensures { λ _. ⌜ now (out .exit) ≡ pointStored (now (out .entry)) p ⌝ }
+{
+    if 3 <= out.len() {
+        polygon::put_point(out, 0, p);
+    }
+}
+
+fn put_plane(out: &mut [f64], w: Plane)
+    ensures { λ _. ⌜ now (out .exit) ≡ planeStored (now (out .entry)) w ⌝ }
+{
+    if 12 <= out.len() {
+        room::put_plane(out, 0, w);
+    }
+}
+
+// 0 and the plane, or the number of the refusal and nothing.
+fn put_planed(out: &mut [f64], p: Planed) -> u64
+    ensures { λ r. ⌜ r ≡ numberOf (planed p) ⌝ }
+    ensures { λ _. ⌜ now (out .exit) ≡ planedStored (now (out .entry)) (planed p) ⌝ }
+{
+    match p {
+        Planed::Made(w) => {
+            put_plane(out, w);
+            0
+        }
+        Planed::Refused(r) => r.number,
+    }
+}
+
+#[no_mangle]
+pub extern "C" fn leaf_plane(origin: &[f64], normal: &[f64], hint: &[f64], linear: f64, out: &mut [f64]) -> u64
+    ensures { λ r. ⌜ r ≡ numberOf (planeOf (record { linear = linear; local = linear }) (pointBy (now (origin .entry))) (pointBy (now (normal .entry))) (pointBy (now (hint .entry)))) ⌝ }
+    ensures { λ _. ⌜ now (out .exit) ≡ planedStored (now (out .entry)) (planeOf (record { linear = linear; local = linear }) (pointBy (now (origin .entry))) (pointBy (now (normal .entry))) (pointBy (now (hint .entry)))) ⌝ }
+{
+    let p = Precision {
+        linear,
+        local: linear,
+    };
+    let o = point_by(origin);
+    let n = point_by(normal);
+    let h = point_by(hint);
+    put_planed(out, space::plane_of(p, o, n, h))
+}
+
+#[no_mangle]
+pub extern "C" fn leaf_opposite(plane: &[f64], linear: f64, out: &mut [f64]) -> u64
+    ensures { λ r. ⌜ r ≡ numberOf (oppositeOf (record { linear = linear; local = linear }) (planeBy (now (plane .entry)))) ⌝ }
+    ensures { λ _. ⌜ now (out .exit) ≡ planedStored (now (out .entry)) (oppositeOf (record { linear = linear; local = linear }) (planeBy (now (plane .entry)))) ⌝ }
+{
+    let p = Precision {
+        linear,
+        local: linear,
+    };
+    let w = plane_by(plane);
+    put_planed(out, side::opposite(w, p))
+}
+
+#[no_mangle]
+pub extern "C" fn leaf_to_local(plane: &[f64], q: &[f64], out: &mut [f64])
+    ensures { λ _. ⌜ now (out .exit) ≡ pointStored (now (out .entry)) (localOf (planeBy (now (plane .entry)) .frame) (pointBy (now (q .entry)))) ⌝ }
+{
+    let w = plane_by(plane);
+    let p = point_by(q);
+    let f = w.frame;
+    put_point(out, space::to_local(f, p));
+}
+
+#[no_mangle]
+pub extern "C" fn leaf_distance(plane: &[f64], q: &[f64], out: &mut [f64])
+    ensures { λ _. ⌜ now (out .exit) ≡ stored (now (out .entry)) (distanceOf (planeBy (now (plane .entry))) (pointBy (now (q .entry)))) ⌝ }
+{
+    let w = plane_by(plane);
+    let p = point_by(q);
+    put(out, side::distance(w, p));
+}
+
+#[no_mangle]
+pub extern "C" fn leaf_side(plane: &[f64], q: &[f64], local: f64) -> u64
+    ensures { λ r. ⌜ r ≡ sideCode (sideOf (record { linear = local; local = local }) (planeBy (now (plane .entry))) (pointBy (now (q .entry)))) ⌝ }
+{
+    let p = Precision {
+        linear: local,
+        local,
+    };
+    side_code(side::side_of(plane_by(plane), point_by(q), p))
+}
+
+fn projected(xl: f64, xh: f64, yl: f64, yh: f64) -> Projected
+    ensures { λ r. ⌜ r ≡ shadow xl xh yl yh ⌝ }
+{
+    let x = Interval { lo: xl, hi: xh };
+    let y = Interval { lo: yl, hi: yh };
+    Projected { x, y }
+}
+
+// The three corners' ends: low and high x, low and high y of each.
+#[no_mangle]
+pub extern "C" fn leaf_orientation(
+    axl: f64,
+    axh: f64,
+    ayl: f64,
+    ayh: f64,
+    bxl: f64,
+    bxh: f64,
+    byl: f64,
+    byh: f64,
+    cxl: f64,
+    cxh: f64,
+    cyl: f64,
+    cyh: f64,
+    local: f64,
+) -> u64
+    ensures { λ r. ⌜ r ≡ bendCode (orientationOf (record { linear = local; local = local }) (shadow axl axh ayl ayh) (shadow bxl bxh byl byh) (shadow cxl cxh cyl cyh)) ⌝ }
+{
+    let p = Precision {
+        linear: local,
+        local,
+    };
+    let a = projected(axl, axh, ayl, ayh);
+    let b = projected(bxl, bxh, byl, byh);
+    let c = projected(cxl, cxh, cyl, cyh);
+    bend_code(turns::orientation(p, a, b, c))
+}
+
+#[no_mangle]
+pub extern "C" fn leaf_contains_range(al: f64, ah: f64, bl: f64, bh: f64, zl: f64, zh: f64, local: f64) -> u64
+    ensures { λ r. ⌜ r ≡ yes (inRange (record { linear = local; local = local }) (record { lo = al; hi = ah }) (record { lo = bl; hi = bh }) (record { lo = zl; hi = zh })) ⌝ }
+{
+    let p = Precision {
+        linear: local,
+        local,
+    };
+    let a = Interval { lo: al, hi: ah };
+    let b = Interval { lo: bl, hi: bh };
+    let z = Interval { lo: zl, hi: zh };
+    code(turns::contains_range(p, a, b, z))
 }
