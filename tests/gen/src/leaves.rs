@@ -298,6 +298,18 @@ pub fn hull(random: &mut Random, t: &Tolerances) -> (Plane, Vec<Point>) {
     (plane, out)
 }
 
+/// The plane z = 0 and points on it, the leftmost with a local x of -0 or +0: totalOrder decides.
+pub fn hull_zeros(random: &mut Random) -> (Plane, Vec<Point>) {
+    let mut points = Vec::new();
+    for down in 1..=random.between(2, 4) {
+        let x = random.pick(&[-0.0, 0.0]);
+        points.push([x, -(down as f64), -0.0]);
+    }
+    points.extend([[1.0, -3.0, 0.0], [2.0, -1.0, -0.0]]);
+    random.shuffle(&mut points);
+    (LEVEL, points)
+}
+
 // ---- cells
 
 /// A solid and a plane that passes close to its corners, edges or faces, or through it.
@@ -370,6 +382,20 @@ pub fn edges_edge(random: &mut Random, t: &Tolerances) -> [(Vec<Point>, Vec<usiz
         leaf::conform(t, &points, &polygon)
     };
     flip(low, high, ask).map(at)
+}
+
+/// An edge and a point on it, as far from its start as the change of the answer, on either side.
+pub fn edges_start(random: &mut Random, t: &Tolerances) -> [(Vec<Point>, Vec<usize>); 2] {
+    let edge = scale(random.direction(), 1.0 + random.unit());
+    let at = |along: f64| {
+        let points = vec![[0.0; 3], edge, [-4.0, 4.0, 4.0], scale(edge, along)];
+        (points, vec![0, 1, 2])
+    };
+    let ask = |along: f64| {
+        let (points, polygon) = at(along);
+        leaf::conform(t, &points, &polygon)
+    };
+    flip(0.0, 0.5, ask).map(at)
 }
 
 /// A box whose edges are shares of local, its points in any order: near and unresolved pairs.
