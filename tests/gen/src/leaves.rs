@@ -2,7 +2,7 @@
 use crate::facets::plane;
 use crate::random::Random;
 use crate::solid::{add, ball, cube, gem, prism, scale, tetrahedron, Reshape};
-use oracle::{leaf, Cell, Face, Plane, Point, Solid, Tolerances};
+use oracle::{leaf, Cell, Face, Interval, Plane, Point, Solid, Tolerances};
 
 // ---- numbers
 
@@ -579,6 +579,29 @@ pub fn shadows(random: &mut Random, t: &Tolerances) -> [[[f64; 2]; 2]; 3] {
             [x - width, x + width]
         })
     })
+}
+
+/// Three straight corners, the last as wide as the change from Zero to refused, on either side.
+pub fn shadows_edge(random: &mut Random, t: &Tolerances) -> [[leaf::Projected; 3]; 2] {
+    let shadow = |x: f64, y: [f64; 2]| leaf::Projected {
+        x: Interval::point(x),
+        y: Interval::ends(y[0], y[1]),
+    };
+    let (end, at) = (1.0 + random.unit(), random.unit());
+    let share = random.pick(&[0.0, 0.25, 1.0]);
+    let turned = random.coin();
+    let corners = |w: f64| {
+        let y = match turned {
+            true => [-w, share * w],
+            false => [-share * w, w],
+        };
+        [shadow(0.0, [0.0; 2]), shadow(end, [0.0; 2]), shadow(at, y)]
+    };
+    let ask = |w: f64| {
+        let [a, b, c] = corners(w);
+        leaf::orientation(t, &a, &b, &c)
+    };
+    flip(0.0, t.local, ask).map(corners)
 }
 
 /// Three intervals, the third about local past the range of the others.

@@ -243,6 +243,9 @@ fn answers_change_at_their_edges() {
         let [a, b] = leaves::edges_edge(&mut random, &t);
         let ends = [&a, &b].map(|q| leaf::conform(&t, &q.0, &q.1));
         assert_ne!(ends[0], ends[1]);
+        let shadows = leaves::shadows_edge(&mut random, &t);
+        let turns = shadows.map(|[a, b, c]| leaf::orientation(&t, &a, &b, &c));
+        assert_eq!(turns, [Ok(Sign::Zero), Err(33)]);
         let [a, b] = leaves::edges_start(&mut random, &t);
         let ends = [&a, &b].map(|q| leaf::conform(&t, &q.0, &q.1));
         assert_ne!(ends[0], ends[1]);
