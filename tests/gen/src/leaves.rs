@@ -2,7 +2,7 @@
 use crate::facets::plane;
 use crate::random::Random;
 use crate::solid::{add, ball, cube, gem, prism, scale, tetrahedron, Reshape};
-use oracle::{leaf, Cell, Face, Plane, Point, Solid, Tolerances};
+use oracle::{leaf, Cell, Face, Interval, Plane, Point, Solid, Tolerances};
 
 // ---- numbers
 
@@ -298,6 +298,18 @@ pub fn hull(random: &mut Random, t: &Tolerances) -> (Plane, Vec<Point>) {
     (plane, out)
 }
 
+/// The plane z = 0 and points on it, the leftmost with a local x of -0 or +0: totalOrder decides.
+pub fn hull_zeros(random: &mut Random) -> (Plane, Vec<Point>) {
+    let mut points = Vec::new();
+    for down in 1..=random.between(2, 4) {
+        let x = random.pick(&[-0.0, 0.0]);
+        points.push([x, -(down as f64), -0.0]);
+    }
+    points.extend([[1.0, -3.0, 0.0], [2.0, -1.0, -0.0]]);
+    random.shuffle(&mut points);
+    (LEVEL, points)
+}
+
 // ---- cells
 
 /// A solid and a plane that passes close to its corners, edges or faces, or through it.
@@ -370,6 +382,20 @@ pub fn edges_edge(random: &mut Random, t: &Tolerances) -> [(Vec<Point>, Vec<usiz
         leaf::conform(t, &points, &polygon)
     };
     flip(low, high, ask).map(at)
+}
+
+/// An edge and a point on it, as far from its start as the change of the answer, on either side.
+pub fn edges_start(random: &mut Random, t: &Tolerances) -> [(Vec<Point>, Vec<usize>); 2] {
+    let edge = scale(random.direction(), 1.0 + random.unit());
+    let at = |along: f64| {
+        let points = vec![[0.0; 3], edge, [-4.0, 4.0, 4.0], scale(edge, along)];
+        (points, vec![0, 1, 2])
+    };
+    let ask = |along: f64| {
+        let (points, polygon) = at(along);
+        leaf::conform(t, &points, &polygon)
+    };
+    flip(0.0, 0.5, ask).map(at)
 }
 
 /// A box whose edges are shares of local, its points in any order: near and unresolved pairs.
@@ -553,6 +579,29 @@ pub fn shadows(random: &mut Random, t: &Tolerances) -> [[[f64; 2]; 2]; 3] {
             [x - width, x + width]
         })
     })
+}
+
+/// Three straight corners, the last as wide as the change from Zero to refused, on either side.
+pub fn shadows_edge(random: &mut Random, t: &Tolerances) -> [[leaf::Projected; 3]; 2] {
+    let shadow = |x: f64, y: [f64; 2]| leaf::Projected {
+        x: Interval::point(x),
+        y: Interval::ends(y[0], y[1]),
+    };
+    let (end, at) = (1.0 + random.unit(), random.unit());
+    let share = random.pick(&[0.0, 0.25, 1.0]);
+    let turned = random.coin();
+    let corners = |w: f64| {
+        let y = match turned {
+            true => [-w, share * w],
+            false => [-share * w, w],
+        };
+        [shadow(0.0, [0.0; 2]), shadow(end, [0.0; 2]), shadow(at, y)]
+    };
+    let ask = |w: f64| {
+        let [a, b, c] = corners(w);
+        leaf::orientation(t, &a, &b, &c)
+    };
+    flip(0.0, t.local, ask).map(corners)
 }
 
 /// Three intervals, the third about local past the range of the others.

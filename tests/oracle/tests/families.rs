@@ -165,6 +165,16 @@ fn chains_and_hulls() {
         number(&leaf::hull(&T, &plane, &points))
     });
     assert_eq!(met, BTreeSet::from([0, 6, 10]));
+    let mut random = Random::new(4);
+    for _ in 0..100 {
+        let (plane, points) = leaves::hull_zeros(&mut random);
+        let first = leaf::hull(&T, &plane, &points).expect("a hull")[0];
+        let leftmost = |q: &&oracle::Point| q[0].to_bits() == (-0.0f64).to_bits();
+        assert_eq!(
+            first[0].is_sign_negative(),
+            points.iter().any(|q| leftmost(&q))
+        );
+    }
 }
 
 /// Document 01's promise of a cut, where every corner classifies.
@@ -231,6 +241,12 @@ fn answers_change_at_their_edges() {
         let [a, b] = leaves::side_edge(&mut random, &t);
         assert_ne!(leaf::side(&t, &a.0, &a.1), leaf::side(&t, &b.0, &b.1));
         let [a, b] = leaves::edges_edge(&mut random, &t);
+        let ends = [&a, &b].map(|q| leaf::conform(&t, &q.0, &q.1));
+        assert_ne!(ends[0], ends[1]);
+        let shadows = leaves::shadows_edge(&mut random, &t);
+        let turns = shadows.map(|[a, b, c]| leaf::orientation(&t, &a, &b, &c));
+        assert_eq!(turns, [Ok(Sign::Zero), Err(33)]);
+        let [a, b] = leaves::edges_start(&mut random, &t);
         let ends = [&a, &b].map(|q| leaf::conform(&t, &q.0, &q.1));
         assert_ne!(ends[0], ends[1]);
     }
