@@ -76,8 +76,11 @@ bendCode (B.Refused r) = r .number
 unfoldable pub pointBy : List Float → Point3
 pointBy s = cond (ltb (length s) 3) origin (pointAt s 0)
 
+unfoldable pub flat : Plane
+flat = record { frame = record { origin = origin; x = origin; y = origin; z = origin } }
+
 unfoldable pub planeBy : List Float → Plane
-planeBy s = cond (ltb (length s) 12) (record { frame = record { origin = origin; x = origin; y = origin; z = origin } }) (planeAt s 0)
+planeBy s = cond (ltb (length s) 12) flat (planeAt s 0)
 
 -- a point and a plane, where there is room for them
 unfoldable pub pointStored : List Float → Point3 → List Float
@@ -86,9 +89,10 @@ pointStored s p = cond (leb 3 (length s)) (sets s 0 (floats p)) s
 unfoldable pub planeStored : List Float → Plane → List Float
 planeStored s w = cond (leb 12 (length s)) (sets s 0 (planeFloats w)) s
 
-unfoldable pub planedStored : List Float → Outcome Plane → List Float
-planedStored s (ok w) = planeStored s w
-planedStored s (refused r) = s
+-- the plane of an outcome, or one of zeros
+unfoldable pub planeIn : Outcome Plane → Plane
+planeIn (ok w) = w
+planeIn (refused r) = flat
 
 abbrev pub shadow : Float → Float → Float → Float → Projected
 shadow xl xh yl yh = record { x = record { lo = xl; hi = xh }; y = record { lo = yl; hi = yh } }

@@ -22,9 +22,9 @@ ghost use Rattle.space.specs.Vector.{lengthV};
 ghost use Rattle.space.specs.Frames.{planed, planeOf, localOf};
 ghost use Rattle.space.specs.Near.{nearOf};
 ghost use Rattle.side.specs.Sides.{distanceOf, sideOf, oppositeOf};
-ghost use Rattle.turns.specs.Turns.{orientationOf, inRange};
 ghost use Rattle.refusal.specs.Outcome.{numberOf};
-ghost use Rattle.leaves.specs.Codes.{stored, yes, signCode, turnCode, inverted, closeCode, sideCode, bendCode, pointBy, planeBy, pointStored, planeStored, planedStored, shadow};
+ghost use Rattle.turns.specs.Turns.{orientationOf, inRange};
+ghost use Rattle.leaves.specs.Codes.{stored, yes, signCode, turnCode, inverted, closeCode, sideCode, bendCode, pointBy, planeBy, pointStored, planeStored, planeIn, flat, shadow};
 
 fn put(out: &mut [f64], i: Interval)
     ensures { λ _. ⌜ now (out .exit) ≡ stored (now (out .entry)) i ⌝ }
@@ -285,22 +285,28 @@ fn point_by(s: &[f64]) -> Point3
     polygon::get_point(s, 0)
 }
 
-fn plane_by(s: &[f64]) -> Plane
-    ensures { λ r. ⌜ r ≡ planeBy (now (s .entry)) ⌝ }
+fn flat() -> Plane
+    ensures { λ r. ⌜ r ≡ flat ⌝ }
 {
     let o = Point3 {
         x: 0.0,
         y: 0.0,
         z: 0.0,
     };
+    let frame = Frame {
+        origin: o,
+        x: o,
+        y: o,
+        z: o,
+    };
+    Plane { frame }
+}
+
+fn plane_by(s: &[f64]) -> Plane
+    ensures { λ r. ⌜ r ≡ planeBy (now (s .entry)) ⌝ }
+{
     if s.len() < 12 {
-        let frame = Frame {
-            origin: o,
-            x: o,
-            y: o,
-            z: o,
-        };
-        return Plane { frame };
+        return flat();
     }
     room::get_plane(s, 0)
 }
@@ -321,24 +327,30 @@ fn put_plane(out: &mut [f64], w: Plane)
     }
 }
 
-// 0 and the plane, or the number of the refusal and nothing.
-fn put_planed(out: &mut [f64], p: Planed) -> u64
-    ensures { λ r. ⌜ r ≡ numberOf (planed p) ⌝ }
-    ensures { λ _. ⌜ now (out .exit) ≡ planedStored (now (out .entry)) (planed p) ⌝ }
+// The plane, or one of zeros.
+fn plane_in(p: Planed) -> Plane
+    ensures { λ r. ⌜ r ≡ planeIn (planed p) ⌝ }
 {
     match p {
-        Planed::Made(w) => {
-            put_plane(out, w);
-            0
-        }
+        Planed::Made(w) => w,
+        Planed::Refused(_) => flat(),
+    }
+}
+
+fn planed_code(p: Planed) -> u64
+    ensures { λ r. ⌜ r ≡ numberOf (planed p) ⌝ }
+{
+    match p {
+        Planed::Made(_) => 0,
         Planed::Refused(r) => r.number,
     }
 }
 
+// 0 and the plane, or the number of the refusal and zeros.
 #[no_mangle]
 pub extern "C" fn leaf_plane(origin: &[f64], normal: &[f64], hint: &[f64], linear: f64, out: &mut [f64]) -> u64
     ensures { λ r. ⌜ r ≡ numberOf (planeOf (record { linear = linear; local = linear }) (pointBy (now (origin .entry))) (pointBy (now (normal .entry))) (pointBy (now (hint .entry)))) ⌝ }
-    ensures { λ _. ⌜ now (out .exit) ≡ planedStored (now (out .entry)) (planeOf (record { linear = linear; local = linear }) (pointBy (now (origin .entry))) (pointBy (now (normal .entry))) (pointBy (now (hint .entry)))) ⌝ }
+    ensures { λ _. ⌜ now (out .exit) ≡ planeStored (now (out .entry)) (planeIn (planeOf (record { linear = linear; local = linear }) (pointBy (now (origin .entry))) (pointBy (now (normal .entry))) (pointBy (now (hint .entry))))) ⌝ }
 {
     let p = Precision {
         linear,
@@ -347,20 +359,24 @@ pub extern "C" fn leaf_plane(origin: &[f64], normal: &[f64], hint: &[f64], linea
     let o = point_by(origin);
     let n = point_by(normal);
     let h = point_by(hint);
-    put_planed(out, space::plane_of(p, o, n, h))
+    let made = space::plane_of(p, o, n, h);
+    put_plane(out, plane_in(made));
+    planed_code(made)
 }
 
 #[no_mangle]
 pub extern "C" fn leaf_opposite(plane: &[f64], linear: f64, out: &mut [f64]) -> u64
     ensures { λ r. ⌜ r ≡ numberOf (oppositeOf (record { linear = linear; local = linear }) (planeBy (now (plane .entry)))) ⌝ }
-    ensures { λ _. ⌜ now (out .exit) ≡ planedStored (now (out .entry)) (oppositeOf (record { linear = linear; local = linear }) (planeBy (now (plane .entry)))) ⌝ }
+    ensures { λ _. ⌜ now (out .exit) ≡ planeStored (now (out .entry)) (planeIn (oppositeOf (record { linear = linear; local = linear }) (planeBy (now (plane .entry))))) ⌝ }
 {
     let p = Precision {
         linear,
         local: linear,
     };
     let w = plane_by(plane);
-    put_planed(out, side::opposite(w, p))
+    let made = side::opposite(w, p);
+    put_plane(out, plane_in(made));
+    planed_code(made)
 }
 
 #[no_mangle]

@@ -1,4 +1,4 @@
-//! Floats from the bits, square root, intervals, exact orientation, near.
+//! Floats from the bits, square root, intervals, exact orientation, near, frames, side, mesh orientation.
 use crate::bits::{all, bits};
 use crate::report::Report;
 use gen::{leaves as ask, Random};
@@ -40,6 +40,8 @@ pub fn compare(report: &mut Report, seed: u64, scale: usize) {
     floats(report, seed, scale);
     intervals(report, seed + 1, scale);
     points(report, seed + 2, scale);
+    frames(report, seed + 3, scale);
+    turns(report, seed + 4, scale);
 }
 
 fn floats(report: &mut Report, seed: u64, scale: usize) {
@@ -214,6 +216,109 @@ fn points(report: &mut Report, seed: u64, scale: usize) {
     );
 }
 
+fn frames(report: &mut Report, seed: u64, scale: usize) {
+    let mut random = Random::new(seed);
+    let given: Vec<_> = (0..MANY * scale)
+        .map(|_| {
+            let t = tolerances(&mut random);
+            (t, ask::frame(&mut random, &t))
+        })
+        .collect();
+    report.ask(
+        "plane",
+        given,
+        |(t, [o, n, h])| {
+            let (number, plane) = ours::plane(o, n, h, t.linear);
+            (number, all(plane))
+        },
+        |(t, [o, n, h])| told(leaf::frame(t, o, n, h)),
+    );
+    let mut random = Random::new(seed + 10);
+    let mut given = || -> Vec<_> { (0..MANY * scale).map(|_| over_plane(&mut random)).collect() };
+    report.ask(
+        "opposite",
+        given(),
+        |(t, w, _)| {
+            let (number, plane) = ours::opposite(w, t.linear);
+            (number, all(plane))
+        },
+        |(t, w, _)| told(leaf::opposite(t, w)),
+    );
+    report.ask("to_local", given(), |(_, w, q)| all(ours::to_local(w, q)), |(_, w, q)| all(local(w, q)));
+    report.ask(
+        "distance",
+        given(),
+        |(_, w, q)| all(ours::distance(w, q)),
+        |(_, w, q)| all(ends(leaf::distance(w, q))),
+    );
+    report.ask(
+        "side",
+        given(),
+        |(t, w, q)| ours::side(w, q, t.local),
+        |(t, w, q)| leaf::side(t, w, q).map_or_else(u64::from, |s| sign_code(Some(s))),
+    );
+}
+
+/// The number of a refusal and zeros, or 0 and the plane.
+fn told(o: Result<[f64; 12], u32>) -> (u64, [u64; 12]) {
+    o.map_or_else(|n| (u64::from(n), [0; 12]), |w| (0, all(w)))
+}
+
+fn tolerances(random: &mut Random) -> Tolerances {
+    let t = gen::jobs::tolerances(random);
+    Tolerances {
+        linear: t.linear,
+        local: t.local,
+    }
+}
+
+fn over_plane(random: &mut Random) -> (Tolerances, [f64; 12], [f64; 3]) {
+    let t = tolerances(random);
+    let (plane, q) = ask::side(random, &t);
+    (t, plane, q)
+}
+
+fn local(w: &[f64; 12], q: &[f64; 3]) -> [f64; 3] {
+    let d = [q[0] - w[0], q[1] - w[1], q[2] - w[2]];
+    let dot = |i: usize| (d[0] * w[i] + d[1] * w[i + 1]) + d[2] * w[i + 2];
+    [dot(3), dot(6), dot(9)]
+}
+
+fn turns(report: &mut Report, seed: u64, scale: usize) {
+    let mut random = Random::new(seed);
+    let given: Vec<_> = (0..MANY * scale)
+        .map(|_| {
+            let t = tolerances(&mut random);
+            (t, ask::shadows(&mut random, &t))
+        })
+        .collect();
+    let shadow = |c: &[[f64; 2]; 2]| leaf::Projected {
+        x: interval(&c[0]),
+        y: interval(&c[1]),
+    };
+    report.ask(
+        "mesh orientation",
+        given,
+        |(t, c)| ours::orientation(c, t.local),
+        |(t, c)| {
+            let [a, b, c] = [0, 1, 2].map(|i| shadow(&c[i]));
+            leaf::orientation(t, &a, &b, &c).map_or_else(u64::from, |s| sign_code(Some(s)))
+        },
+    );
+    let given: Vec<_> = (0..MANY * scale)
+        .map(|_| {
+            let t = tolerances(&mut random);
+            (t, ask::ranges(&mut random, &t))
+        })
+        .collect();
+    report.ask(
+        "contains_range",
+        given,
+        |(t, [a, b, z])| ours::contains_range(*a, *b, *z, t.local),
+        |(t, [a, b, z])| leaf::contains_range(t, interval(a), interval(b), interval(z)),
+    );
+}
+
 /// Mostly finite; a number that is not gives none.
 fn turn(random: &mut Random) -> [[f64; 2]; 3] {
     let mut t = ask::turn(random);
@@ -228,13 +333,7 @@ fn length(v: &[f64; 3]) -> f64 {
 }
 
 fn near(random: &mut Random) -> (Tolerances, [[f64; 3]; 2]) {
-    let t = gen::jobs::tolerances(random);
+    let t = tolerances(random);
     let q = ask::near(random, &t);
-    (
-        Tolerances {
-            linear: t.linear,
-            local: t.local,
-        },
-        q,
-    )
+    (t, q)
 }

@@ -22,6 +22,37 @@ mod raw {
         pub fn leaf_sign(al: f64, ah: f64) -> u64;
         pub fn leaf_holds_zero(al: f64, ah: f64) -> u64;
         pub fn leaf_length(x: f64, y: f64, z: f64) -> f64;
+        pub fn leaf_plane(
+            origin: *const f64,
+            origin_n: usize,
+            normal: *const f64,
+            normal_n: usize,
+            hint: *const f64,
+            hint_n: usize,
+            linear: f64,
+            out: *mut f64,
+            out_n: usize,
+        ) -> u64;
+        pub fn leaf_opposite(plane: *const f64, plane_n: usize, linear: f64, out: *mut f64, out_n: usize) -> u64;
+        pub fn leaf_to_local(plane: *const f64, plane_n: usize, q: *const f64, q_n: usize, out: *mut f64, out_n: usize);
+        pub fn leaf_distance(plane: *const f64, plane_n: usize, q: *const f64, q_n: usize, out: *mut f64, out_n: usize);
+        pub fn leaf_side(plane: *const f64, plane_n: usize, q: *const f64, q_n: usize, local: f64) -> u64;
+        pub fn leaf_orientation(
+            axl: f64,
+            axh: f64,
+            ayl: f64,
+            ayh: f64,
+            bxl: f64,
+            bxh: f64,
+            byl: f64,
+            byh: f64,
+            cxl: f64,
+            cxh: f64,
+            cyl: f64,
+            cyh: f64,
+            local: f64,
+        ) -> u64;
+        pub fn leaf_contains_range(al: f64, ah: f64, bl: f64, bh: f64, zl: f64, zh: f64, local: f64) -> u64;
         pub fn leaf_near(ax: f64, ay: f64, az: f64, bx: f64, by: f64, bz: f64, local: f64) -> u64;
     }
 }
@@ -89,6 +120,56 @@ pub fn length(v: [f64; 3]) -> f64 {
 /// 0 apart, 1 near, 6 refused.
 pub fn near(a: [f64; 3], b: [f64; 3], local: f64) -> u64 {
     unsafe { raw::leaf_near(a[0], a[1], a[2], b[0], b[1], b[2], local) }
+}
+
+pub type Point = [f64; 3];
+
+/// Origin, x, y, z.
+pub type Plane = [f64; 12];
+
+/// 0 and the plane, or the number of the refusal and zeros.
+pub fn plane(origin: &Point, normal: &Point, hint: &Point, linear: f64) -> (u64, Plane) {
+    let mut out = [UNTOUCHED; 12];
+    let [o, n, h] = [origin, normal, hint].map(|p| p.as_ptr());
+    let number = unsafe { raw::leaf_plane(o, 3, n, 3, h, 3, linear, out.as_mut_ptr(), 12) };
+    (number, out)
+}
+
+pub fn opposite(plane: &Plane, linear: f64) -> (u64, Plane) {
+    let mut out = [UNTOUCHED; 12];
+    let number = unsafe { raw::leaf_opposite(plane.as_ptr(), 12, linear, out.as_mut_ptr(), 12) };
+    (number, out)
+}
+
+pub fn to_local(plane: &Plane, q: &Point) -> Point {
+    let mut out = [UNTOUCHED; 3];
+    unsafe { raw::leaf_to_local(plane.as_ptr(), 12, q.as_ptr(), 3, out.as_mut_ptr(), 3) };
+    out
+}
+
+pub fn distance(plane: &Plane, q: &Point) -> Interval {
+    let mut out = [UNTOUCHED; 2];
+    unsafe { raw::leaf_distance(plane.as_ptr(), 12, q.as_ptr(), 3, out.as_mut_ptr(), 2) };
+    out
+}
+
+/// A sign's code, or 7.
+pub fn side(plane: &Plane, q: &Point, local: f64) -> u64 {
+    unsafe { raw::leaf_side(plane.as_ptr(), 12, q.as_ptr(), 3, local) }
+}
+
+/// A sign's code, or 33; a corner is its x and its y.
+pub fn orientation(corners: &[[Interval; 2]; 3], local: f64) -> u64 {
+    let [[ax, ay], [bx, by], [cx, cy]] = *corners;
+    unsafe {
+        raw::leaf_orientation(
+            ax[0], ax[1], ay[0], ay[1], bx[0], bx[1], by[0], by[1], cx[0], cx[1], cy[0], cy[1], local,
+        )
+    }
+}
+
+pub fn contains_range(a: Interval, b: Interval, z: Interval, local: f64) -> bool {
+    unsafe { raw::leaf_contains_range(a[0], a[1], b[0], b[1], z[0], z[1], local) == 1 }
 }
 
 /// Where the leaves that answer an interval write it: two numbers right before an unreadable page.

@@ -3,23 +3,18 @@ use borrow.Author.Needs.{needs}
 use Rattle.leaves.proofs.put.Statement.{statement}
 use Rattle.leaves.proofs.put.Tie as tie
 
--- src/lib.rt:28:9
 slice-write-out : tie.Need-slice-write-out
 slice-write-out c = search needs
 
--- src/lib.rt:29:9
 slice-write-out-2 : tie.Need-slice-write-out-2
 slice-write-out-2 c = search needs
 
--- src/lib.rt:24:1
 same-length : tie.Need-same-length
 same-length c = search needs
 
--- src/lib.rt:24:1
 returns : tie.Need-returns
 returns c = search (needs, fits)
 
--- src/lib.rt:24:1
 returns-2 : tie.Need-returns-2
 returns-2 c = search (needs, short)
 
