@@ -1,6 +1,7 @@
 //! Floats from the bits, square root, intervals, exact orientation, near, frames, side, mesh orientation.
 use crate::bits::{all, bits};
 use crate::report::Report;
+use gen::jobs::tolerances;
 use gen::{leaves as ask, Random};
 use oracle::leaf;
 use oracle::{Interval, Sign, Tolerances};
@@ -244,7 +245,12 @@ fn frames(report: &mut Report, seed: u64, scale: usize) {
         },
         |(t, w, _)| told(leaf::opposite(t, w)),
     );
-    report.ask("to_local", given(), |(_, w, q)| all(ours::to_local(w, q)), |(_, w, q)| all(local(w, q)));
+    report.ask(
+        "to_local",
+        given(),
+        |(_, w, q)| all(ours::to_local(w, q)),
+        |(_, w, q)| all(local(w, q)),
+    );
     report.ask(
         "distance",
         given(),
@@ -262,14 +268,6 @@ fn frames(report: &mut Report, seed: u64, scale: usize) {
 /// The number of a refusal and zeros, or 0 and the plane.
 fn told(o: Result<[f64; 12], u32>) -> (u64, [u64; 12]) {
     o.map_or_else(|n| (u64::from(n), [0; 12]), |w| (0, all(w)))
-}
-
-fn tolerances(random: &mut Random) -> Tolerances {
-    let t = gen::jobs::tolerances(random);
-    Tolerances {
-        linear: t.linear,
-        local: t.local,
-    }
 }
 
 fn over_plane(random: &mut Random) -> (Tolerances, [f64; 12], [f64; 3]) {

@@ -33,10 +33,36 @@ mod raw {
             out: *mut f64,
             out_n: usize,
         ) -> u64;
-        pub fn leaf_opposite(plane: *const f64, plane_n: usize, linear: f64, out: *mut f64, out_n: usize) -> u64;
-        pub fn leaf_to_local(plane: *const f64, plane_n: usize, q: *const f64, q_n: usize, out: *mut f64, out_n: usize);
-        pub fn leaf_distance(plane: *const f64, plane_n: usize, q: *const f64, q_n: usize, out: *mut f64, out_n: usize);
-        pub fn leaf_side(plane: *const f64, plane_n: usize, q: *const f64, q_n: usize, local: f64) -> u64;
+        pub fn leaf_opposite(
+            plane: *const f64,
+            plane_n: usize,
+            linear: f64,
+            out: *mut f64,
+            out_n: usize,
+        ) -> u64;
+        pub fn leaf_to_local(
+            plane: *const f64,
+            plane_n: usize,
+            q: *const f64,
+            q_n: usize,
+            out: *mut f64,
+            out_n: usize,
+        );
+        pub fn leaf_distance(
+            plane: *const f64,
+            plane_n: usize,
+            q: *const f64,
+            q_n: usize,
+            out: *mut f64,
+            out_n: usize,
+        );
+        pub fn leaf_side(
+            plane: *const f64,
+            plane_n: usize,
+            q: *const f64,
+            q_n: usize,
+            local: f64,
+        ) -> u64;
         pub fn leaf_orientation(
             axl: f64,
             axh: f64,
@@ -52,7 +78,15 @@ mod raw {
             cyh: f64,
             local: f64,
         ) -> u64;
-        pub fn leaf_contains_range(al: f64, ah: f64, bl: f64, bh: f64, zl: f64, zh: f64, local: f64) -> u64;
+        pub fn leaf_contains_range(
+            al: f64,
+            ah: f64,
+            bl: f64,
+            bh: f64,
+            zl: f64,
+            zh: f64,
+            local: f64,
+        ) -> u64;
         pub fn leaf_near(ax: f64, ay: f64, az: f64, bx: f64, by: f64, bz: f64, local: f64) -> u64;
     }
 }
@@ -163,7 +197,8 @@ pub fn orientation(corners: &[[Interval; 2]; 3], local: f64) -> u64 {
     let [[ax, ay], [bx, by], [cx, cy]] = *corners;
     unsafe {
         raw::leaf_orientation(
-            ax[0], ax[1], ay[0], ay[1], bx[0], bx[1], by[0], by[1], cx[0], cx[1], cy[0], cy[1], local,
+            ax[0], ax[1], ay[0], ay[1], bx[0], bx[1], by[0], by[1], cx[0], cx[1], cy[0], cy[1],
+            local,
         )
     }
 }
