@@ -1,0 +1,4 @@
+pub mod Records
+pub mod Read
+pub mod Bytes
+pub mod Runs
