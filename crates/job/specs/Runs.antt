@@ -20,11 +20,11 @@ and-yes : (b : Bool) → b ≡ (b && true)
 and-yes true = refl
 and-yes false = refl
 
-and-left : (a b : Bool) → (a && b) ≡ true → a ≡ true
+pub and-left : (a b : Bool) → (a && b) ≡ true → a ≡ true
 and-left true b e = refl
 and-left false b e = e
 
-and-right : (a b : Bool) → (a && b) ≡ true → b ≡ true
+pub and-right : (a b : Bool) → (a && b) ≡ true → b ≡ true
 and-right true b e = e
 and-right false b e = let z : false ≡ true = e in cc
 
@@ -172,13 +172,14 @@ pub faces-fit : (f s : List ℕ) → facesAfter 0 s ≡ f → length f + 3 * tot
 unfolding total
 faces-fit [] s e = omega arith
 faces-fit (c ∷ f) s e =
-    omega
-    (arith,
-    faces-fit f (drop (1 + 3 * c) s) (faces-rest c f s e),
-    run-fits 4 2 c (drop 1 s) (faces-count c f s e),
-    stands-whole 3 0 s (faces-first c f s e),
-    length-drop (1 + 3 * c) s,
-    length-drop 1 s)
+    omega (
+      arith,
+      faces-fit f (drop (1 + 3 * c) s) (faces-rest c f s e),
+      run-fits 4 2 c (drop 1 s) (faces-count c f s e),
+      stands-whole 3 0 s (faces-first c f s e),
+      length-drop (1 + 3 * c) s,
+      length-drop 1 s,
+    )
 
 pub faces-in : (l : List ℕ) (at : ℕ) (f : Faces) → f ≡ facesOf (drop at l) → f .faces + 3 * f .corners ≤ length l - at
 unfolding facesOf

@@ -117,7 +117,14 @@ pub fn span_at(job: &[u8], start: usize) -> Spanned
     let points = run(job, start, 2, 24);
     let middle = start + 25 * points;
     let f = faces_from(job, middle);
-    span_end(job, start, points, middle, f, middle + f.faces + 3 * f.corners)
+    span_end(
+        job,
+        start,
+        points,
+        middle,
+        f,
+        middle + f.faces + 3 * f.corners,
+    )
 }
 
 fn operation_of(b: u8) -> Operated
@@ -188,9 +195,7 @@ fn laid_on(job: &[u8], first: Span, s: Spanned) -> Laid
     ensures { λ r. ⌜ laid r ≡ then (spanned s) (layoutOn (now (job .entry)) first) ⌝ }
 {
     match s {
-        Spanned::Made(second) => {
-            laid_with(job, first, second, operation_at(job, second.end))
-        }
+        Spanned::Made(second) => { laid_with(job, first, second, operation_at(job, second.end)) }
         Spanned::Refused(r) => Laid::Refused(r),
     }
 }
