@@ -348,7 +348,13 @@ fn planed_code(p: Planed) -> u64
 
 // 0 and the plane, or the number of the refusal and zeros.
 #[no_mangle]
-pub extern "C" fn leaf_plane(origin: &[f64], normal: &[f64], hint: &[f64], linear: f64, out: &mut [f64]) -> u64
+pub extern "C" fn leaf_plane(
+    origin: &[f64],
+    normal: &[f64],
+    hint: &[f64],
+    linear: f64,
+    out: &mut [f64],
+) -> u64
     ensures { λ r. ⌜ r ≡ numberOf (planeOf (record { linear = linear; local = linear }) (pointBy (now (origin .entry))) (pointBy (now (normal .entry))) (pointBy (now (hint .entry)))) ⌝ }
     ensures { λ _. ⌜ now (out .exit) ≡ planeStored (now (out .entry)) (planeIn (planeOf (record { linear = linear; local = linear }) (pointBy (now (origin .entry))) (pointBy (now (normal .entry))) (pointBy (now (hint .entry))))) ⌝ }
 {
@@ -447,7 +453,15 @@ pub extern "C" fn leaf_orientation(
 }
 
 #[no_mangle]
-pub extern "C" fn leaf_contains_range(al: f64, ah: f64, bl: f64, bh: f64, zl: f64, zh: f64, local: f64) -> u64
+pub extern "C" fn leaf_contains_range(
+    al: f64,
+    ah: f64,
+    bl: f64,
+    bh: f64,
+    zl: f64,
+    zh: f64,
+    local: f64,
+) -> u64
     ensures { λ r. ⌜ r ≡ yes (inRange (record { linear = local; local = local }) (record { lo = al; hi = ah }) (record { lo = bl; hi = bh }) (record { lo = zl; hi = zh })) ⌝ }
 {
     let p = Precision {

@@ -6,6 +6,7 @@ pub mod jobs;
 pub mod leaves;
 pub mod pairs;
 pub mod random;
+pub mod replay;
 pub mod solid;
 
 pub use random::Random;
