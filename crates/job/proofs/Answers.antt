@@ -2,12 +2,16 @@
 use mathlib.Core.Path.{_≡_, refl, sym, ap, _∙_}
 use mathlib.Core.Bool.{Bool, true, false, not, _&&_}
 use mathlib.Core.List.{List}
-use Prim.Native.Nat.{ℕ, _+_, _*_}
-use lib.ListN.{length, drop, getD}
+use Prim.Native.Nat.{ℕ, _+_, _*_, _-_, _/_, _≤_, _<_}
+use native.Mathlib.Omega.{arith}
+use lib.ListN.{length, take, drop, getD, length-drop, drop-of-length-le}
+use lib.Seq.{take-all}
 use lib.Dec.{eqb}
 use borrow.Author.Tests.{ne-eqb, eq-eqb}
 use Rattle.refusal.specs.declared.Refusal.{Refusal}
 use Rattle.refusal.specs.Outcome.{Outcome, ok, refused, refuse, refusalOf, unless, then}
+use Rattle.space.specs.declared.Precision.{Precision}
+use Rattle.space.specs.declared.Plane.{Plane}
 use Rattle.job.specs.declared.Faces.{Faces}
 use Rattle.job.specs.declared.Span.{Span}
 use Rattle.job.specs.declared.Spanned.{Spanned}
@@ -17,8 +21,12 @@ use Rattle.job.specs.declared.Operation.the-variants.{Intersection, Diff
 use Rattle.job.specs.declared.Operated.{Operated}
 use Rattle.job.specs.declared.Operated.the-variants as O
 use Rattle.job.specs.declared.Layout.{Layout}
+use Rattle.job.specs.declared.CellLayout.{CellLayout}
+use Rattle.job.specs.declared.FacetLayout.{FacetLayout}
 use Rattle.job.specs.Records.{standing, spanned, runOf, facesOf, spanEnd, spanFaces, spanPoints, spanOf}
-use Rattle.job.specs.Read.{operated, layoutAs, layoutWith, layoutOn, operationOf, closing, operationAt, headed, layoutAfter, layoutOf}
+use Rattle.job.specs.Read.{operated, layoutAs, layoutWith, layoutOn, operationOf, closing, operationAt, headed, layoutAfter, layoutOf, precisionAt, cellEnd, cellLayout, planeAt, facetEnd, facetHeaded, facetLayout, pointFrom, pointAt}
+use Rattle.job.specs.Runs.{and-left, run-in}
+use Rattle.job.specs.Sound.{head-short}
 
 -- ---- a test that fails, and one that holds
 
@@ -112,3 +120,69 @@ with-second l a b s o y e p q = q ∙ ap (λ x. then x (layoutWith l a b)) p ∙
 pub with-first : (l : List ℕ) (a : Span) (s : Spanned) (o : Outcome Span) (y : Outcome Layout) → s ≡ S.Made a → o ≡ spanOf l (a .end) → y ≡ then o (layoutOn l a) → y ≡ then (spanned s) (layoutAfter l)
 unfolding spanned layoutAfter
 with-first l a s o y e p q = q ∙ ap (λ x. then x (layoutOn l a)) p ∙ ap (λ x. then (spanned x) (layoutAfter l)) (sym e)
+
+-- ---- one solid alone
+
+pub cell-no : (l : List ℕ) (a : Span) (r : Refusal) → (length l ≡ a .end → ⊥) → r ≡ refusalOf 1 → refused r ≡ cellEnd l a
+unfolding cellEnd
+cell-no l a r n q = no-test (eqb (length l) (a .end)) false r _ (sym (ne-eqb (length l) (a .end) n)) refl q
+
+pub cell-yes : (l : List ℕ) (a : Span) (p : Precision) → length l ≡ a .end → p ≡ precisionAt l 1 → ok (record { precision = p; solid = a }) ≡ cellEnd l a
+unfolding cellEnd
+cell-yes l a p n q =
+    ap (λ x. ok (record { precision = x; solid = a })) q ∙ yes-test (eqb (length l) (a .end)) true _ (sym (eq-eqb (length l) (a .end) n)) refl
+
+pub with-cell : (l : List ℕ) (a : Span) (s : Spanned) (y : Outcome CellLayout) → s ≡ S.Made a → y ≡ cellEnd l a → y ≡ then (spanned s) (cellEnd l)
+unfolding spanned
+with-cell l a s y e q = q ∙ ap (λ x. then (spanned x) (cellEnd l)) (sym e)
+
+pub cell-headed-no : (l : List ℕ) (t : Bool) (r : Refusal) → t ≡ headed l → t ≡ false → r ≡ refusalOf 1 → refused r ≡ cellLayout l
+unfolding cellLayout
+cell-headed-no l t r e h q = no-test (headed l) t r _ e h q
+
+pub cell-headed-yes : (l : List ℕ) (t : Bool) (s : Outcome Span) (o : Outcome CellLayout) → t ≡ headed l → t ≡ true → s ≡ spanOf l 17 → o ≡ then s (cellEnd l) → o ≡ cellLayout l
+unfolding cellLayout
+cell-headed-yes l t s o e h p q = q ∙ ap (λ x. then x (cellEnd l)) p ∙ yes-test (headed l) t _ e h
+
+-- ---- one facet
+
+pub facet-no : (l : List ℕ) (n : ℕ) (r : Refusal) → (length l ≡ 114 + 25 * n → ⊥) → r ≡ refusalOf 1 → refused r ≡ facetEnd l n
+unfolding facetEnd
+facet-no l n r h q = no-test (eqb (length l) (114 + 25 * n)) false r _ (sym (ne-eqb (length l) (114 + 25 * n) h)) refl q
+
+pub facet-yes : (l : List ℕ) (n : ℕ) (p : Precision) (f : Plane) → length l ≡ 114 + 25 * n → p ≡ precisionAt l 1 → f ≡ planeAt l 18
+    → ok (record { precision = p; plane = f; start = 114; points = n }) ≡ facetEnd l n
+unfolding facetEnd
+facet-yes l n p f h q e =
+    ap (λ x. ok (record { precision = x; plane = f; start = 114; points = n })) q
+    ∙ ap (λ x. ok (record { precision = precisionAt l 1; plane = x; start = 114; points = n })) e
+    ∙ yes-test (eqb (length l) (114 + 25 * n)) true _ (sym (eq-eqb (length l) (114 + 25 * n) h)) refl
+
+pub facet-headed-no : (l : List ℕ) (t : Bool) (r : Refusal) → t ≡ facetHeaded l → t ≡ false → r ≡ refusalOf 1 → refused r ≡ facetLayout l
+unfolding facetLayout
+facet-headed-no l t r e h q = no-test (facetHeaded l) t r _ e h q
+
+pub facet-headed-yes : (l : List ℕ) (t : Bool) (n : ℕ) (o : Outcome FacetLayout) → t ≡ facetHeaded l → t ≡ true → n ≡ runOf 2 24 (drop 114 l) → o ≡ facetEnd l n → o ≡ facetLayout l
+unfolding facetLayout
+facet-headed-yes l t n o e h p q = q ∙ ap (facetEnd l) p ∙ yes-test (facetHeaded l) t _ e h
+
+pub facet-points : (l : List ℕ) (t : Bool) (n : ℕ) → t ≡ facetHeaded l → t ≡ true → n ≡ runOf 2 24 (drop 114 l) → n < 65536
+unfolding facetHeaded
+facet-points l t n e h q =
+    omega (arith, head-short l (and-left (headed l) (standing 9 96 (drop 17 l)) (sym e ∙ h)), run-in l 114 2 24 n q)
+
+-- ---- a point past the bytes, and one within
+
+pub point-none : (l : List ℕ) (start i : ℕ) → length l ≤ start → pointFrom (take 0 l) ≡ pointAt l start i
+unfolding pointAt
+point-none l start i h = let k : length l ≤ start + 25 * i = omega arith in ap pointFrom (sym (drop-of-length-le l k))
+
+pub point-past : (l : List ℕ) (start i : ℕ) → start < length l → (length l - start) / 25 < i → pointFrom (take 0 l) ≡ pointAt l start i
+unfolding pointAt
+point-past l start i h k = let m : length l ≤ start + 25 * i = omega arith in ap pointFrom (sym (drop-of-length-le l m))
+
+pub point-here : (l : List ℕ) (start i : ℕ) → pointFrom (take (length l - (start + 25 * i)) (drop (start + 25 * i) l)) ≡ pointAt l start i
+unfolding pointAt
+point-here l start i =
+    let m : length (drop (start + 25 * i) l) ≤ length l - (start + 25 * i) = omega (arith, length-drop (start + 25 * i) l) in
+    ap pointFrom (take-all (length l - (start + 25 * i)) (drop (start + 25 * i) l) m)

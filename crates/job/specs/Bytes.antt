@@ -1,11 +1,13 @@
 -- Which bytes are a job, and what they mean: the one definition that the reader is proved against (01, "Job file").
 -- The records stand by their bodies: every body of the right length is one, so a job is told by the lengths alone.
-use Prim.Native.Nat.{ℕ, _≤_}
+use Prim.Native.Nat.{ℕ, _+_, _≤_}
 use mathlib.Core.Path.{_≡_}
 use mathlib.Core.List.{List, [], _∷_, _++_, map}
 use lib.ListN.{length}
 use Rattle.space.specs.declared.Point3.{Point3}
 use Rattle.space.specs.declared.Precision.{Precision}
+use Rattle.space.specs.declared.Frame.{Frame}
+use Rattle.space.specs.declared.Plane.{Plane}
 use Rattle.space.specs.Shapes.{Solid}
 use Rattle.words.specs.Little.{little, floatAt}
 use Rattle.job.specs.declared.Operation.{Operation}
@@ -94,3 +96,43 @@ pub record IsJob (l : List ℕ) (j : Job) : Type 0 where
   pub bytes : l ≡ jobBytes bodies
   pub short : length l ≤ 32768
   pub meaning : jobOf bodies ≡ j
+
+-- ---- one solid alone: records 1, points, faces, 5
+
+pub record Single : Type 0 where
+  pub precision : Precision
+  pub solid : Solid
+
+pub record IsCell (l : List ℕ) (j : Single) : Type 0 where
+  pub tolerances : List ℕ
+  pub bodies : SolidBodies
+  pub headed : length tolerances ≡ 16
+  pub sized : SolidSized bodies
+  pub bytes : l ≡ 1 ∷ tolerances ++ solidTo bodies []
+  pub short : length l ≤ 32768
+  pub meaning : record { precision = precisionOf tolerances; solid = solidOf bodies } ≡ j
+
+-- ---- one facet for the mesh call: record 1, its plane as one record of kind 9, its corners as points
+
+pub record Facet : Type 0 where
+  pub precision : Precision
+  pub plane : Plane
+  pub points : List Point3
+
+unfoldable pub spotOf : List ℕ → ℕ → Point3
+spotOf b i = record { x = floatAt b i; y = floatAt b (i + 8); z = floatAt b (i + 16) }
+
+-- origin, x, y, z
+unfoldable pub planeOf : List ℕ → Plane
+planeOf b = record { frame = record { origin = spotOf b 0; x = spotOf b 24; y = spotOf b 48; z = spotOf b 72 } }
+
+pub record IsFacet (l : List ℕ) (j : Facet) : Type 0 where
+  pub tolerances : List ℕ
+  pub plane : List ℕ
+  pub bodies : List (List ℕ)
+  pub headed : length tolerances ≡ 16
+  pub framed : length plane ≡ 96
+  pub sized : Sized 24 bodies
+  pub bytes : l ≡ 1 ∷ tolerances ++ 9 ∷ plane ++ recordsTo 2 bodies []
+  pub short : length l ≤ 32768
+  pub meaning : record { precision = precisionOf tolerances; plane = planeOf plane; points = map pointOf bodies } ≡ j

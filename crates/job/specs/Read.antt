@@ -7,6 +7,8 @@ use lib.Dec.{eqb, leb}
 use Rattle.refusal.specs.Outcome.{Outcome, ok, refused, refuse, then, unless}
 use Rattle.space.specs.declared.Point3.{Point3}
 use Rattle.space.specs.declared.Precision.{Precision}
+use Rattle.space.specs.declared.Frame.{Frame}
+use Rattle.space.specs.declared.Plane.{Plane}
 use Rattle.space.specs.Shapes.{Solid}
 use Rattle.words.specs.Little.{floatAt}
 use Rattle.job.specs.declared.Operation.{Operation}
@@ -17,8 +19,14 @@ use Rattle.job.specs.declared.Span.{Span}
 use Rattle.job.specs.declared.Layout.{Layout}
 use Rattle.job.specs.declared.Laid.{Laid}
 use Rattle.job.specs.declared.Laid.the-variants as L
-use Rattle.job.specs.Records.{standing, spanOf, bodies, faceBodies}
-use Rattle.job.specs.Bytes.{SolidBodies, JobBodies, Job, solidOf, jobOf}
+use Rattle.job.specs.declared.CellLayout.{CellLayout}
+use Rattle.job.specs.declared.CellLaid.{CellLaid}
+use Rattle.job.specs.declared.CellLaid.the-variants as C
+use Rattle.job.specs.declared.FacetLayout.{FacetLayout}
+use Rattle.job.specs.declared.FacetLaid.{FacetLaid}
+use Rattle.job.specs.declared.FacetLaid.the-variants as F
+use Rattle.job.specs.Records.{standing, runOf, spanOf, bodies, faceBodies}
+use Rattle.job.specs.Bytes.{SolidBodies, pointOf, solidOf, Job, Single, Facet}
 
 -- what the answers say
 unfoldable pub operated : Operated → Outcome Operation
@@ -63,7 +71,47 @@ layoutAfter l a = then (spanOf l (a .end)) (layoutOn l a)
 unfoldable pub layoutOf : List ℕ → Outcome Layout
 layoutOf l = unless (not (headed l)) 1 (then (spanOf l 17) (layoutAfter l))
 
+-- ---- one solid alone: "records 1, points, faces, 5"
+
+unfoldable pub cellLaid : CellLaid → Outcome CellLayout
+cellLaid (C.Made y) = ok y
+cellLaid (C.Refused r) = refused r
+
+unfoldable pub cellEnd : List ℕ → Span → Outcome CellLayout
+cellEnd l a = unless (not (eqb (length l) (a .end))) 1 (ok (record { precision = precisionAt l 1; solid = a }))
+
+unfoldable pub cellLayout : List ℕ → Outcome CellLayout
+cellLayout l = unless (not (headed l)) 1 (then (spanOf l 17) (cellEnd l))
+
+-- ---- one facet: tolerances, its plane (kind 9, 12 f64), its corners as points
+
+unfoldable pub facetLaid : FacetLaid → Outcome FacetLayout
+facetLaid (F.Made y) = ok y
+facetLaid (F.Refused r) = refused r
+
+unfoldable pub spotAt : List ℕ → ℕ → Point3
+spotAt l at = record { x = floatAt l at; y = floatAt l (at + 8); z = floatAt l (at + 16) }
+
+unfoldable pub planeAt : List ℕ → ℕ → Plane
+planeAt l at = record { frame = record { origin = spotAt l at; x = spotAt l (at + 24); y = spotAt l (at + 48); z = spotAt l (at + 72) } }
+
+unfoldable pub facetEnd : List ℕ → ℕ → Outcome FacetLayout
+facetEnd l n = unless (not (eqb (length l) (114 + 25 * n))) 1 (ok (record { precision = precisionAt l 1; plane = planeAt l 18; start = 114; points = n }))
+
+unfoldable pub facetHeaded : List ℕ → Bool
+facetHeaded l = headed l && standing 9 96 (drop 17 l)
+
+unfoldable pub facetLayout : List ℕ → Outcome FacetLayout
+facetLayout l = unless (not (facetHeaded l)) 1 (facetEnd l (runOf 2 24 (drop 114 l)))
+
 -- ---- what stands at the places
+
+-- the point whose record is the front of a list, and point i of those that begin at a place
+unfoldable pub pointFrom : List ℕ → Point3
+pointFrom s = record { x = floatAt s 1; y = floatAt s 9; z = floatAt s 17 }
+
+unfoldable pub pointAt : List ℕ → ℕ → ℕ → Point3
+pointAt l at i = pointFrom (drop (at + 25 * i) l)
 
 unfoldable pub bodiesAt : List ℕ → Span → SolidBodies
 bodiesAt l a = record { points = bodies 24 (a .points) (drop (a .start) l); faces = faceBodies (a .faces) (drop (a .middle) l) }
@@ -77,3 +125,15 @@ jobAt l y = record { precision = y .precision; first = solidAt l (y .first); sec
 -- the job that bytes are, or 1
 unfoldable pub readJob : List ℕ → Outcome Job
 readJob l = then (layoutOf l) (λ y. ok (jobAt l y))
+
+unfoldable pub cellAt : List ℕ → CellLayout → Single
+cellAt l y = record { precision = y .precision; solid = solidAt l (y .solid) }
+
+unfoldable pub readCell : List ℕ → Outcome Single
+readCell l = then (cellLayout l) (λ y. ok (cellAt l y))
+
+unfoldable pub facetAt : List ℕ → FacetLayout → Facet
+facetAt l y = record { precision = y .precision; plane = y .plane; points = map pointOf (bodies 24 (y .points) (drop (y .start) l)) }
+
+unfoldable pub readFacet : List ℕ → Outcome Facet
+readFacet l = then (facetLayout l) (λ y. ok (facetAt l y))

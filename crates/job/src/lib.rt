@@ -1,13 +1,16 @@
 // The reader of jobs: it says where the parts of a job stand in the bytes that were lent, and reads them there.
 // Each contract is one equation with a definition of `specs/`.
 use refusal::Refusal;
+use space::Frame;
+use space::Plane;
 use space::Point3;
 use space::Precision;
 ghost use mathlib.Core.Path.{_≡_};
+ghost use Prim.Native.Nat.{_+_, _<_};
 ghost use Rattle.refusal.specs.Outcome.{then};
 ghost use lib.ListN.{length, drop, getD};
 ghost use Rattle.job.specs.Records.{standing, runOf, facesOf, spanned, spanEnd, spanOf};
-ghost use Rattle.job.specs.Read.{operated, laid, headed, precisionAt, operationOf, closing, operationAt, layoutAs, layoutWith, layoutOn, layoutAfter, layoutOf};
+ghost use Rattle.job.specs.Read.{operated, laid, headed, precisionAt, operationOf, closing, operationAt, layoutAs, layoutWith, layoutOn, layoutAfter, layoutOf, cellLaid, cellEnd, cellLayout, facetLaid, spotAt, planeAt, facetEnd, facetHeaded, facetLayout, pointFrom, pointAt};
 
 pub enum Operation {
     Intersection,
@@ -50,6 +53,30 @@ pub struct Layout {
 
 pub enum Laid {
     Made(Layout),
+    Refused(Refusal),
+}
+
+// A solid alone, with its tolerances.
+pub struct CellLayout {
+    pub precision: Precision,
+    pub solid: Span,
+}
+
+pub enum CellLaid {
+    Made(CellLayout),
+    Refused(Refusal),
+}
+
+// A facet for the mesh: its plane, and where its corners stand.
+pub struct FacetLayout {
+    pub precision: Precision,
+    pub plane: Plane,
+    pub start: usize,
+    pub points: usize,
+}
+
+pub enum FacetLaid {
+    Made(FacetLayout),
     Refused(Refusal),
 }
 
@@ -217,4 +244,113 @@ pub fn read_job(job: &[u8]) -> Laid
         return Laid::Refused(refusal::refuse(1));
     }
     laid_after(job, span_at(job, 17))
+}
+
+fn cell_end(job: &[u8], solid: Span) -> CellLaid
+    ensures { λ r. ⌜ cellLaid r ≡ cellEnd (now (job .entry)) solid ⌝ }
+{
+    if job.len() != solid.end {
+        return CellLaid::Refused(refusal::refuse(1));
+    }
+    CellLaid::Made(CellLayout {
+        precision: precision_at(job),
+        solid,
+    })
+}
+
+fn cell_after(job: &[u8], s: Spanned) -> CellLaid
+    ensures { λ r. ⌜ cellLaid r ≡ then (spanned s) (cellEnd (now (job .entry))) ⌝ }
+{
+    match s {
+        Spanned::Made(solid) => cell_end(job, solid),
+        Spanned::Refused(r) => CellLaid::Refused(r),
+    }
+}
+
+// One solid alone, read whole.
+pub fn read_cell(job: &[u8]) -> CellLaid
+    ensures { λ r. ⌜ cellLaid r ≡ cellLayout (now (job .entry)) ⌝ }
+{
+    if !is_headed(job) {
+        return CellLaid::Refused(refusal::refuse(1));
+    }
+    cell_after(job, span_at(job, 17))
+}
+
+fn spot_at(job: &[u8], at: usize) -> Point3
+    requires { ⌜ at + 16 < 65536 ⌝ }
+    ensures { λ r. ⌜ r ≡ spotAt (now (job .entry)) at ⌝ }
+{
+    Point3 {
+        x: words::float_at(job, at),
+        y: words::float_at(job, at + 8),
+        z: words::float_at(job, at + 16),
+    }
+}
+
+fn plane_at(job: &[u8]) -> Plane
+    ensures { λ r. ⌜ r ≡ planeAt (now (job .entry)) 18 ⌝ }
+{
+    let origin = spot_at(job, 18);
+    let x = spot_at(job, 42);
+    let y = spot_at(job, 66);
+    let z = spot_at(job, 90);
+    Plane {
+        frame: Frame { origin, x, y, z },
+    }
+}
+
+fn facet_end(job: &[u8], points: usize) -> FacetLaid
+    requires { ⌜ points < 65536 ⌝ }
+    ensures { λ r. ⌜ facetLaid r ≡ facetEnd (now (job .entry)) points ⌝ }
+{
+    if job.len() != 114 + 25 * points {
+        return FacetLaid::Refused(refusal::refuse(1));
+    }
+    FacetLaid::Made(FacetLayout {
+        precision: precision_at(job),
+        plane: plane_at(job),
+        start: 114,
+        points,
+    })
+}
+
+fn is_facet_headed(job: &[u8]) -> bool
+    ensures { λ r. ⌜ r ≡ facetHeaded (now (job .entry)) ⌝ }
+{
+    is_headed(job) & stands(job, 17, 9, 96)
+}
+
+// One facet for the mesh, read whole.
+pub fn read_facet(job: &[u8]) -> FacetLaid
+    ensures { λ r. ⌜ facetLaid r ≡ facetLayout (now (job .entry)) ⌝ }
+{
+    if !is_facet_headed(job) {
+        return FacetLaid::Refused(refusal::refuse(1));
+    }
+    facet_end(job, run(job, 114, 2, 24))
+}
+
+// The point whose record is the front of some bytes.
+fn point_from(s: &[u8]) -> Point3
+    ensures { λ r. ⌜ r ≡ pointFrom (now (s .entry)) ⌝ }
+{
+    Point3 {
+        x: words::float_at(s, 1),
+        y: words::float_at(s, 9),
+        z: words::float_at(s, 17),
+    }
+}
+
+// Point i of those that begin at a place; past the bytes it is the origin.
+pub fn point_at(job: &[u8], start: usize, i: usize) -> Point3
+    ensures { λ r. ⌜ r ≡ pointAt (now (job .entry)) start i ⌝ }
+{
+    if job.len() <= start {
+        return point_from(&job[..0]);
+    }
+    if (job.len() - start) / 25 < i {
+        return point_from(&job[..0]);
+    }
+    point_from(&job[start + 25 * i..])
 }
