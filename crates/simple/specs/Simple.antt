@@ -11,7 +11,7 @@ use Rattle.space.specs.declared.Precision.{Precision}
 use Rattle.turns.specs.declared.Projected.{Projected}
 use Rattle.turns.specs.declared.Turn.{Turn}
 use Rattle.turns.specs.declared.Turn.the-variants as T
-use Rattle.turns.specs.Turns.{orientationOf, inRange}
+use Rattle.turns.specs.Turns.{isPositive, isNegative, isZero, orientationOf, inRange}
 use Rattle.outline.specs.Project.{astray}
 
 -- ---- verdicts in order
@@ -35,26 +35,8 @@ settled (T.Refused r) = Refused r
 
 -- ---- two edges
 
-abbrev pub isPositive : Turn → Bool
-isPositive T.Positive = true
-isPositive T.Negative = false
-isPositive T.Zero = false
-isPositive (T.Refused r) = false
-
-abbrev pub isNegative : Turn → Bool
-isNegative T.Positive = false
-isNegative T.Negative = true
-isNegative T.Zero = false
-isNegative (T.Refused r) = false
-
 abbrev pub oppositeOf : Turn → Turn → Bool
 oppositeOf a b = (isPositive a && isNegative b) || (isNegative a && isPositive b)
-
-abbrev pub isZero : Turn → Bool
-isZero T.Positive = false
-isZero T.Negative = false
-isZero T.Zero = true
-isZero (T.Refused r) = false
 
 -- z lies on the line from x to y, between the two
 unfoldable pub touches : Turn → Precision → Projected → Projected → Projected → Bool

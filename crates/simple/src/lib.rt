@@ -7,45 +7,13 @@ use turns::Turn;
 ghost use mathlib.Core.Path.{_≡_};
 ghost use Prim.Native.Nat.{_+_, _%_, _<_, _≤_};
 ghost use Rattle.outline.specs.Project.{pointsOf};
-ghost use Rattle.simple.specs.Simple.{firstOf, settled, isPositive, isNegative, isZero, oppositeOf, touches, apart, metBy, edgesBy, edgesOf, nextOf, pairOf, simpleFrom, simpleOf};
-
-fn is_positive(s: Turn) -> bool
-    ensures { λ r. ⌜ r ≡ isPositive s ⌝ }
-{
-    match s {
-        Turn::Positive => true,
-        Turn::Negative => false,
-        Turn::Zero => false,
-        Turn::Refused(_) => false,
-    }
-}
-
-fn is_negative(s: Turn) -> bool
-    ensures { λ r. ⌜ r ≡ isNegative s ⌝ }
-{
-    match s {
-        Turn::Positive => false,
-        Turn::Negative => true,
-        Turn::Zero => false,
-        Turn::Refused(_) => false,
-    }
-}
+ghost use Rattle.simple.specs.Simple.{firstOf, settled, oppositeOf, touches, apart, metBy, edgesBy, edgesOf, nextOf, pairOf, simpleFrom, simpleOf};
 
 fn opposite(a: Turn, b: Turn) -> bool
     ensures { λ r. ⌜ r ≡ oppositeOf a b ⌝ }
 {
-    (is_positive(a) & is_negative(b)) | (is_negative(a) & is_positive(b))
-}
-
-fn is_zero(s: Turn) -> bool
-    ensures { λ r. ⌜ r ≡ isZero s ⌝ }
-{
-    match s {
-        Turn::Positive => false,
-        Turn::Negative => false,
-        Turn::Zero => true,
-        Turn::Refused(_) => false,
-    }
+    (turns::is_positive(a) & turns::is_negative(b))
+        | (turns::is_negative(a) & turns::is_positive(b))
 }
 
 // z lies on the line from x to y, between the two.
@@ -53,7 +21,7 @@ fn touches(s: Turn, p: Precision, x: Projected, y: Projected, z: Projected) -> b
     ensures { λ r. ⌜ r ≡ touches s p x y z ⌝ }
 {
     let across = turns::contains_range(p, x.x, y.x, z.x);
-    is_zero(s) & (across & turns::contains_range(p, x.y, y.y, z.y))
+    turns::is_zero(s) & (across & turns::contains_range(p, x.y, y.y, z.y))
 }
 
 fn settled(s: Turn) -> Verdict

@@ -1,5 +1,5 @@
 -- The turn at three points of a plane: 33; a coordinate between two others. Definitions only.
-use mathlib.Core.Bool.{Bool, _&&_, cond}
+use mathlib.Core.Bool.{Bool, true, false, _&&_, cond}
 use lib.Ieee.{Float, binary64, add, sub, mul, neg, le}
 use Rattle.float.specs.Float.{lesser, greater}
 use Rattle.refusal.specs.Outcome.{refusalOf}
@@ -39,3 +39,21 @@ orientationOf p a b c =
 unfoldable pub inRange : Precision → Interval → Interval → Interval → Bool
 inRange p a b z =
     le (sub binary64 (lesser (a .lo) (b .lo)) (p .local)) (z .hi) && le (z .lo) (add binary64 (greater (a .hi) (b .hi)) (p .local))
+
+abbrev pub isPositive : Turn → Bool
+isPositive Positive = true
+isPositive Negative = false
+isPositive Zero = false
+isPositive (Refused r) = false
+
+abbrev pub isNegative : Turn → Bool
+isNegative Positive = false
+isNegative Negative = true
+isNegative Zero = false
+isNegative (Refused r) = false
+
+abbrev pub isZero : Turn → Bool
+isZero Positive = false
+isZero Negative = false
+isZero Zero = true
+isZero (Refused r) = false

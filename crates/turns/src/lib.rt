@@ -4,7 +4,7 @@ use interval::Sign;
 use refusal::Refusal;
 use space::Precision;
 ghost use mathlib.Core.Path.{_≡_};
-ghost use Rattle.turns.specs.Turns.{determinantOf, inside, zeroWhere, turned, orientationOf, inRange};
+ghost use Rattle.turns.specs.Turns.{determinantOf, inside, zeroWhere, turned, orientationOf, inRange, isPositive, isNegative, isZero};
 
 // A point in the coordinates of a plane.
 pub struct Projected {
@@ -71,4 +71,37 @@ pub fn contains_range(p: Precision, a: Interval, b: Interval, z: Interval) -> bo
     let low = float::lesser(a.lo, b.lo) - p.local;
     let high = float::greater(a.hi, b.hi) + p.local;
     (low <= z.hi) & (z.lo <= high)
+}
+
+pub fn is_positive(s: Turn) -> bool
+    ensures { λ r. ⌜ r ≡ isPositive s ⌝ }
+{
+    match s {
+        Turn::Positive => true,
+        Turn::Negative => false,
+        Turn::Zero => false,
+        Turn::Refused(_) => false,
+    }
+}
+
+pub fn is_negative(s: Turn) -> bool
+    ensures { λ r. ⌜ r ≡ isNegative s ⌝ }
+{
+    match s {
+        Turn::Positive => false,
+        Turn::Negative => true,
+        Turn::Zero => false,
+        Turn::Refused(_) => false,
+    }
+}
+
+pub fn is_zero(s: Turn) -> bool
+    ensures { λ r. ⌜ r ≡ isZero s ⌝ }
+{
+    match s {
+        Turn::Positive => false,
+        Turn::Negative => false,
+        Turn::Zero => true,
+        Turn::Refused(_) => false,
+    }
 }
