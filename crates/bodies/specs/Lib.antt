@@ -1,0 +1,6 @@
+pub mod Fusing
+pub mod Passed
+pub mod ListLaws
+pub mod EdgeLaws
+pub mod BodyLaws
+pub mod ShellLaws
