@@ -4,3 +4,4 @@ pub mod ListLaws
 pub mod EdgeLaws
 pub mod BodyLaws
 pub mod ShellLaws
+pub mod Demand

@@ -5,3 +5,4 @@ pub mod OrderLaws
 pub mod Components
 pub mod ComponentLaws
 pub mod MeetLaws
+pub mod CountLaws

@@ -43,6 +43,25 @@ split : (u v : ℕ) → 1 ≤ u + v → (1 ≤ u) ⊎ (1 ≤ v)
 split zero v h = inr (omega arith)
 split (suc u) v h = inl (omega arith)
 
+-- a list of at most two that has two
+pub only-two : (l : List ℕ) (x y : ℕ) → length l ≤ 2 → x ∈ l → y ∈ l → x ≢ y → (l ≡ x ∷ y ∷ []) ⊎ (l ≡ y ∷ x ∷ [])
+only-two [] x y n a b ne = none x a
+only-two (u ∷ []) x y n a b ne = absurd (ne (one x a ∙ sym (one y b)))
+  where
+    one : (z : ℕ) → z ∈ (u ∷ []) → z ≡ u
+    one z m = ⊎-elim (λ e. e) (λ k. none z k) (cases-in z u [] m)
+only-two (u ∷ v ∷ []) x y n a b ne = go (two x a) (two y b)
+  where
+    two : (z : ℕ) → z ∈ (u ∷ v ∷ []) → (z ≡ u) ⊎ (z ≡ v)
+    two z m = ⊎-elim (λ e. inl e) (λ k. ⊎-elim (λ e. inr e) (λ k. none z k) (cases-in z v [] k)) (cases-in z u (v ∷ []) m)
+
+    go : (x ≡ u) ⊎ (x ≡ v) → (y ≡ u) ⊎ (y ≡ v) → (u ∷ v ∷ [] ≡ x ∷ y ∷ []) ⊎ (u ∷ v ∷ [] ≡ y ∷ x ∷ [])
+    go (inl p) (inl q) = absurd (ne (p ∙ sym q))
+    go (inl p) (inr q) = inl (cc (p, q))
+    go (inr p) (inl q) = inr (cc (p, q))
+    go (inr p) (inr q) = absurd (ne (p ∙ sym q))
+only-two (u ∷ v ∷ w ∷ l) x y n a b ne = absurd (omega arith)
+
 module _ (ks : List (List ℕ)) (g : ℕ → ℕ) where
   -- what a pair gives to the neighbours of c: d, so often
   joins : ℕ → ℕ → ℕ × ℕ → ℕ
@@ -86,24 +105,6 @@ module _ (ks : List (List ℕ)) (g : ℕ → ℕ) where
     where
       one : sum w (led u (users ks u)) ≡ w (u, v) + 0
       one = rw (e, led, hit-same u) refl
-
-  only-two : (l : List ℕ) (x y : ℕ) → length l ≤ 2 → x ∈ l → y ∈ l → x ≢ y → (l ≡ x ∷ y ∷ []) ⊎ (l ≡ y ∷ x ∷ [])
-  only-two [] x y n a b ne = none x a
-  only-two (u ∷ []) x y n a b ne = absurd (ne (one x a ∙ sym (one y b)))
-    where
-      one : (z : ℕ) → z ∈ (u ∷ []) → z ≡ u
-      one z m = ⊎-elim (λ e. e) (λ k. none z k) (cases-in z u [] m)
-  only-two (u ∷ v ∷ []) x y n a b ne = go (two x a) (two y b)
-    where
-      two : (z : ℕ) → z ∈ (u ∷ v ∷ []) → (z ≡ u) ⊎ (z ≡ v)
-      two z m = ⊎-elim (λ e. inl e) (λ k. ⊎-elim (λ e. inr e) (λ k. none z k) (cases-in z v [] k)) (cases-in z u (v ∷ []) m)
-
-      go : (x ≡ u) ⊎ (x ≡ v) → (y ≡ u) ⊎ (y ≡ v) → (u ∷ v ∷ [] ≡ x ∷ y ∷ []) ⊎ (u ∷ v ∷ [] ≡ y ∷ x ∷ [])
-      go (inl p) (inl q) = absurd (ne (p ∙ sym q))
-      go (inl p) (inr q) = inl (cc (p, q))
-      go (inr p) (inl q) = inr (cc (p, q))
-      go (inr p) (inr q) = absurd (ne (p ∙ sym q))
-  only-two (u ∷ v ∷ w ∷ l) x y n a b ne = absurd (omega arith)
 
   pub meet-near : Two ks → (c d : ℕ) → Meet ks g c d → d ∈ nbrs (map (owners g) (pairs ks)) c
   unfolding joins
