@@ -1,4 +1,5 @@
 pub mod Fusing
+pub mod Cases
 pub mod Passed
 pub mod ListLaws
 pub mod EdgeLaws
