@@ -6,3 +6,4 @@ pub mod Components
 pub mod ComponentLaws
 pub mod MeetLaws
 pub mod CountLaws
+pub mod RunLaws
