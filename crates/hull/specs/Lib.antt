@@ -1,1 +1,2 @@
 pub mod Hull
+pub mod Layout
