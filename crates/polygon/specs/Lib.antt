@@ -3,3 +3,4 @@ pub mod Memory
 pub mod Unique
 pub mod Laws
 pub mod MemoryLaws
+pub mod Members
