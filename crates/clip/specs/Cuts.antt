@@ -1,18 +1,19 @@
 -- `clip`: 7; then 7, 8, 9, 12, 6, 12 face by face; then 6, 10, 12 of the cap. Definitions only.
-use Prim.Native.Nat.{ℕ, _+_}
-use mathlib.Core.Bool.{Bool, true, false, _||_}
-use mathlib.Core.List.{List, [], _∷_, _++_}
+use Prim.Native.Nat.{ℕ}
+use mathlib.Core.Bool.{Bool, true, false}
+use mathlib.Core.List.{List, []}
 use lib.ListN.{length}
-use lib.Dec.{ltb, leb}
-use Rattle.refusal.specs.Outcome.{Outcome, ok, then, unless, walk}
+use lib.Dec.{ltb}
+use Rattle.refusal.specs.Outcome.{Outcome, ok, then, walk}
 use Rattle.space.specs.declared.Point3.{Point3}
 use Rattle.space.specs.declared.Plane.{Plane}
 use Rattle.space.specs.declared.Precision.{Precision}
-use Rattle.space.specs.Shapes.{Face, Cell, Part, nothing, part, corners}
+use Rattle.space.specs.Shapes.{Face, Cell, Part, nothing, part}
 use Rattle.polygon.specs.Unique.{unique}
 use Rattle.hull.specs.Hull.{capOf}
 use Rattle.edge.specs.Meets.{Signs, unseen}
 use Rattle.ring.specs.Rings.{signOne, Ring, cutRing}
+use Rattle.cell.specs.Cells.{addFace, keepFace, leftCell}
 
 -- ---- "all corners are classified first": 7
 
@@ -24,22 +25,10 @@ signsOf t w c = walk (signFace t w) unseen c
 
 -- ---- a cell, face by face
 
--- 01, "Room": 12 for the 129th face, and for more corners than the room, counted as each face is added
-unfoldable pub isFull : ℕ → ℕ → ℕ → ℕ → Bool
-isFull room faces held n = leb 128 faces || ltb room (held + n)
-
-unfoldable pub addFace : ℕ → Cell → Face → Outcome Cell
-addFace room c f = unless (isFull room (length c) (corners 0 c) (length (f .points))) 12 (ok (c ++ (f ∷ [])))
-
 -- the cell so far, and the cap
 pub record Cutting : Type 0 where
   pub cell : Cell
   pub cap : List Point3
-
--- a face with fewer than three corners is dropped
-unfoldable pub keepFace : Bool → ℕ → Cell → Face → Outcome Cell
-keepFace true room c f = ok c
-keepFace false room c f = addFace room c f
 
 unfoldable pub joined : Precision → ℕ → Cell → Plane → Ring → Outcome Cutting
 joined t room c w r =
@@ -56,10 +45,6 @@ closed t room w s = then (capOf t w (s .cap)) (λ l. addFace room (s .cell) (rec
 
 unfoldable pub cutCell : Precision → ℕ → Plane → Cell → Outcome Cell
 cutCell t room w c = then (walk (cutFace t room w) (record { cell = []; cap = [] }) c) (closed t room w)
-
--- a cell that is left whole is added again, face by face
-unfoldable pub leftCell : ℕ → Cell → Outcome Cell
-leftCell room c = walk (addFace room) [] c
 
 abbrev pub asPart : Cell → Outcome Part
 asPart c = ok (part c)
