@@ -1,15 +1,14 @@
 -- The two loops of `unique`: what stands at their heads, and how a turn keeps it.
 use mathlib.Core.Path.{_≡_, refl, sym, ap, _∙_}
 use mathlib.Core.List.{List, [], _∷_, _++_}
-use Prim.Native.Nat.{ℕ, _+_, _-_, _<_, _≤_, min}
+use Prim.Native.Nat.{ℕ, _+_, _<_, _≤_, min}
 use native.Mathlib.Omega.{arith}
-use native.Mathlib.Nat.{min-le-right}
 use native.Mathlib.Decide.{decLt}
 use lib.ListN.{length, take, drop, getD, set, length-append}
 use lib.Seq.{take-all}
 use Rattle.refusal.specs.declared.Refusal.{Refusal}
 use Rattle.refusal.specs.declared.Verdict.the-variants.{Fine}
-use Rattle.refusal.specs.Outcome.{Outcome, ok, refused, walk}
+use Rattle.refusal.specs.Outcome.{ok, refused, walk}
 use Rattle.refusal.specs.Laws.{walk-end}
 use Rattle.lists.specs.Laws.{next, done, pad-set}
 use Rattle.space.specs.declared.Point3.{Point3}
@@ -19,7 +18,7 @@ use Rattle.space.specs.declared.Closeness.the-variants.{Near, Apart, Refused}
 use Rattle.space.specs.Near.{nearOf}
 use Rattle.space.specs.Vector.{origin, nowhere}
 use Rattle.polygon.specs.declared.Made.{Made}
-use Rattle.polygon.specs.Polygons.{padded, polygon, made, cornersOf}
+use Rattle.polygon.specs.Polygons.{padded, polygon, made}
 use Rattle.polygon.specs.Unique.{both, scan, keepOne, unique}
 use Rattle.polygon.specs.Laws.{corners-polygon, length-padded, keep-near, keep-apart, keep-refused, scan-next, scan-done}
 

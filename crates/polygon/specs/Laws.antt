@@ -1,12 +1,12 @@
 -- Laws of polygons and of `unique` that their callers cite.
-use mathlib.Core.Path.{_≡_, refl, sym, ap, _∙_}
+use mathlib.Core.Path.{_≡_, refl, sym, ap}
 use mathlib.Core.List.{List, [], _∷_, _++_}
-use Prim.Native.Nat.{ℕ, _+_, _-_, _<_, _≤_}
+use Prim.Native.Nat.{_+_, _-_, _<_, _≤_}
 use native.Mathlib.Omega.{arith}
-use lib.ListN.{length, take, set, replicate, length-append, length-replicate}
+use lib.ListN.{length, replicate, length-append, length-replicate}
 use lib.Seq.{take-at}
 use Rattle.refusal.specs.declared.Refusal.{Refusal}
-use Rattle.refusal.specs.Outcome.{Outcome, ok, refused, walk}
+use Rattle.refusal.specs.Outcome.{refused, walk}
 use Rattle.refusal.specs.Laws.{walk-go, walk-stop}
 use Rattle.lists.specs.Laws.{pad-set}
 use Rattle.space.specs.declared.Point3.{Point3}

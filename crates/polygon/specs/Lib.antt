@@ -2,3 +2,5 @@ pub mod Polygons
 pub mod Memory
 pub mod Unique
 pub mod Laws
+pub mod MemoryLaws
+pub mod Members

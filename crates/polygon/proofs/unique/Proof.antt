@@ -1,8 +1,7 @@
-use mathlib.Core.Path.{_≡_, refl, sym, ap, _∙_}
+use mathlib.Core.Path.{_≡_, sym, ap, _∙_}
 use mathlib.Core.Logic.{⊎-elim}
-use mathlib.Core.List.{List, [], _∷_, _++_}
-use Prim.Native.Nat.{ℕ, _+_, _-_, _≤_, _<_, min}
-use lib.ListN.{length, take, drop, getD, set}
+use Prim.Native.Nat.{_-_, _≤_, min}
+use lib.ListN.{length, take}
 use Rattle.space.specs.declared.Closeness.the-variants.{Refused}
 use Rattle.lists.specs.Laws.{full}
 use Rattle.polygon.specs.Polygons.{made, cornersOf}
