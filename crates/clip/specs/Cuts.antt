@@ -1,27 +1,21 @@
 -- `clip`: 7; then 7, 8, 9, 12, 6, 12 face by face; then 6, 10, 12 of the cap. Definitions only.
-use Prim.Native.Nat.{ℕ, _+_}
-use mathlib.Core.Bool.{Bool, true, false, _||_}
-use mathlib.Core.List.{List, [], _∷_, _++_}
+use Prim.Native.Nat.{ℕ}
+use mathlib.Core.Bool.{Bool, true, false}
+use mathlib.Core.List.{List, []}
 use lib.ListN.{length}
-use lib.Dec.{ltb, leb}
-use Rattle.refusal.specs.Outcome.{Outcome, ok, refused, then, unless, walk}
-use Rattle.lists.specs.Walks.{Pair, cyclic}
+use lib.Dec.{ltb}
+use Rattle.refusal.specs.Outcome.{Outcome, ok, then, walk}
 use Rattle.space.specs.declared.Point3.{Point3}
 use Rattle.space.specs.declared.Plane.{Plane}
 use Rattle.space.specs.declared.Precision.{Precision}
-use Rattle.space.specs.Shapes.{Face, Cell, Part, nothing, part, corners}
-use Rattle.side.specs.declared.Side.{Side}
-use Rattle.side.specs.Sides.{sideOf}
+use Rattle.space.specs.Shapes.{Face, Cell, Part, nothing, part}
 use Rattle.polygon.specs.Unique.{unique}
 use Rattle.hull.specs.Hull.{capOf}
-use Rattle.edge.specs.declared.Meet.{Meet}
-use Rattle.edge.specs.declared.Meet.the-variants.{Keep, Drop, Touch, Cut, Refused}
-use Rattle.edge.specs.Meets.{Signs, unseen, noted, cornerMeet, edgeMeet}
+use Rattle.edge.specs.Meets.{Signs, unseen}
+use Rattle.ring.specs.Rings.{signOne, Ring, cutRing}
+use Rattle.cell.specs.Cells.{addFace, keepFace, leftCell}
 
 -- ---- "all corners are classified first": 7
-
-unfoldable pub signOne : Precision → Plane → Signs → Point3 → Outcome Signs
-signOne t w s q = noted s (sideOf t w q)
 
 unfoldable pub signFace : Precision → Plane → Signs → Face → Outcome Signs
 signFace t w s f = walk (signOne t w) s (f .points)
@@ -29,58 +23,12 @@ signFace t w s f = walk (signOne t w) s (f .points)
 unfoldable pub signsOf : Precision → Plane → Cell → Outcome Signs
 signsOf t w c = walk (signFace t w) unseen c
 
--- ---- a face, corner by corner
-
--- what the face has so far, and the cap
-pub record Ring : Type 0 where
-  pub face : List Point3
-  pub cap : List Point3
-
--- 01, "Room": 12 when a face would get its 129th corner or a cap its 1,025th point, before near ones are dropped
-unfoldable pub pushFace : Ring → Point3 → Outcome Ring
-pushFace s q = unless (leb 128 (length (s .face))) 12 (ok (record { face = s .face ++ (q ∷ []); cap = s .cap }))
-
-unfoldable pub pushCap : Ring → Point3 → Outcome Ring
-pushCap s q = unless (leb 1024 (length (s .cap))) 12 (ok (record { face = s .face; cap = s .cap ++ (q ∷ []) }))
-
-unfoldable pub pushBoth : Ring → Point3 → Outcome Ring
-pushBoth s q = then (pushFace s q) (λ s′. pushCap s′ q)
-
-unfoldable pub pushed : Ring → Point3 → Meet → Outcome Ring
-pushed s a Keep = pushFace s a
-pushed s a Drop = ok s
-pushed s a Touch = pushBoth s a
-pushed s a (Cut x y z) = pushBoth s (record { x = x; y = y; z = z })
-pushed s a (Refused r) = refused r
-
--- the corner at the edge's start, then the point where the edge crosses the plane
-unfoldable pub cutBy : Precision → Plane → Ring → Point3 → Point3 → Side → Side → Outcome Ring
-cutBy t w s a b sa sb = then (pushed s a (cornerMeet sa sb)) (λ s′. pushed s′ a (edgeMeet t w a b sa sb))
-
-unfoldable pub cutEdge : Precision → Plane → Ring → Pair Point3 → Outcome Ring
-cutEdge t w s e = cutBy t w s (e .from) (e .to) (sideOf t w (e .from)) (sideOf t w (e .to))
-
-unfoldable pub cutRing : Precision → Plane → List Point3 → List Point3 → Outcome Ring
-cutRing t w cap l = walk (cutEdge t w) (record { face = []; cap = cap }) (cyclic l)
-
 -- ---- a cell, face by face
-
--- 01, "Room": 12 for the 129th face, and for more corners than the room, counted as each face is added
-unfoldable pub isFull : ℕ → ℕ → ℕ → ℕ → Bool
-isFull room faces held n = leb 128 faces || ltb room (held + n)
-
-unfoldable pub addFace : ℕ → Cell → Face → Outcome Cell
-addFace room c f = unless (isFull room (length c) (corners 0 c) (length (f .points))) 12 (ok (c ++ (f ∷ [])))
 
 -- the cell so far, and the cap
 pub record Cutting : Type 0 where
   pub cell : Cell
   pub cap : List Point3
-
--- a face with fewer than three corners is dropped
-unfoldable pub keepFace : Bool → ℕ → Cell → Face → Outcome Cell
-keepFace true room c f = ok c
-keepFace false room c f = addFace room c f
 
 unfoldable pub joined : Precision → ℕ → Cell → Plane → Ring → Outcome Cutting
 joined t room c w r =
@@ -97,10 +45,6 @@ closed t room w s = then (capOf t w (s .cap)) (λ l. addFace room (s .cell) (rec
 
 unfoldable pub cutCell : Precision → ℕ → Plane → Cell → Outcome Cell
 cutCell t room w c = then (walk (cutFace t room w) (record { cell = []; cap = [] }) c) (closed t room w)
-
--- a cell that is left whole is added again, face by face
-unfoldable pub leftCell : ℕ → Cell → Outcome Cell
-leftCell room c = walk (addFace room) [] c
 
 abbrev pub asPart : Cell → Outcome Part
 asPart c = ok (part c)

@@ -29,7 +29,9 @@ use Rattle.edge.specs.Laws.{cut-zero, cut-between}
 use Rattle.room.specs.Rooms.{All, In}
 use Rattle.room.specs.Laws.{all-none, all-snoc, all-map, all-both, all-in, all-at}
 use Rattle.room.specs.Steps.{then-ok, unless-ok, ok-same, walk-keeps, walk-back, walk-runs}
-use Rattle.clip.specs.Cuts.{signOne, signFace, signsOf, Ring, pushFace, pushCap, pushBoth, pushed, cutBy, cutEdge, cutRing, isFull, addFace, Cutting, keepFace, joined, cutFace, closed, cutCell, leftCell, asPart, clipBy, clip}
+use Rattle.ring.specs.Rings.{signOne, Ring, pushFace, pushCap, pushBoth, pushed, cutBy, cutEdge, cutRing}
+use Rattle.cell.specs.Cells.{isFull, addFace, keepFace, leftCell}
+use Rattle.clip.specs.Cuts.{signFace, signsOf, Cutting, joined, cutFace, closed, cutCell, asPart, clipBy, clip}
 
 -- every corner of a cell
 abbrev pub Corners : (Point3 → Type 0) → Cell → Type 0

@@ -2,19 +2,20 @@
 use mathlib.Core.Path.{_≡_, refl, sym, ap, _∙_, subst}
 use mathlib.Core.Logic.{_⊎_, inl, inr}
 use mathlib.Core.List.{List, [], _∷_, _++_, append-assoc, append-nil}
-use Prim.Native.Nat.{ℕ, zero, suc, _+_, _-_, _*_, _≤_, _<_}
+use Prim.Native.Nat.{ℕ, zero, suc, _+_, _-_, _*_, _%_, _≤_, _<_}
 use native.Mathlib.Omega.{arith}
-use native.Mathlib.Nat.{not-suc-le-zero, le-of-suc-le-suc, add-zero}
+use native.Mathlib.Nat.{not-suc-le-zero, le-of-suc-le-suc, add-zero, mod-lt}
 use native.Mathlib.Numerals.{add-one, add-three}
 use lib.ListN.{length, take, drop, getD, set, replicate, length-append, length-drop, length-take, drop-of-length-le}
-use lib.Seq.{sets, sets-eq, length-sets, drop-cons, take-suc, take-all, getD-append-add, getD-drop}
+use lib.Seq.{sets, sets-eq, length-sets, drop-cons, take-suc, take-all, getD-append-add, getD-drop, getD-set-other}
 use lib.Ieee.{Float, nan}
 use Rattle.space.specs.declared.Point3.{Point3}
 use Rattle.space.specs.declared.Frame.{Frame}
 use Rattle.space.specs.declared.Plane.{Plane}
 use Rattle.space.specs.Shapes.{Face, Cell, corners}
 use Rattle.space.specs.Vector.{origin}
-use Rattle.lists.specs.Laws.{next, done, pad-set}
+use Rattle.lists.specs.Walks.{Pair, cyclic}
+use Rattle.lists.specs.Laws.{next, done, pad-set, next-pair, length-cyclic}
 use Rattle.polygon.specs.declared.Polygon.{Polygon}
 use Rattle.polygon.specs.Polygons.{padded, polygon}
 use Rattle.polygon.specs.Memory.{floats, floatsOf, pointAt, pointsAt}
@@ -315,3 +316,63 @@ filling-end s at n a i o h f =
     let k : length (pointsAt s at n) ≤ i = omega (arith, length-pointsAt s at n) in
     let e : a ≡ padded (pointsAt s at n) = f .is ∙ ap padded (take-all i (pointsAt s at n) k) in
     ap {B = Polygon} (λ x. record { at = x; n = n }) e ∙ ap {B = Polygon} (λ m. record { at = padded (pointsAt s at n); n = m }) (sym (length-pointsAt s at n))
+
+-- ---- one point more at the front of a slice
+
+getD-sets-before : (s : List Float) (i j : ℕ) (vs : List Float) (d : Float) → j < i → getD (sets s i vs) j d ≡ getD s j d
+getD-sets-before s i j [] d h = refl
+getD-sets-before s i j (v ∷ vs) d h =
+    getD-sets-before (set s i v) (suc i) j vs d (omega arith) ∙ getD-set-other s i j v d (λ e. omega (arith, e))
+
+pub points-before : (s : List Float) (i n j : ℕ) (vs : List Float) → i + 3 * n ≤ j → pointsAt (sets s j vs) i n ≡ pointsAt s i n
+unfolding pointsAt
+points-before s i zero j vs h = refl
+points-before s i (suc n) j vs h =
+    let x = getD-sets-before s j i vs nan (omega arith) in
+    let y = getD-sets-before s j (i + 1) vs nan (omega arith) in
+    let z = getD-sets-before s j (i + 2) vs nan (omega arith) in
+    let p : pointAt (sets s j vs) i ≡ pointAt s i = λ k. record { x = x k; y = y k; z = z k } in
+    cc (p, points-before s (i + 3) n j vs (omega arith))
+
+points-snoc : (s : List Float) (i n : ℕ) → pointsAt s i (suc n) ≡ pointsAt s i n ++ (pointAt s (i + 3 * n) ∷ [])
+unfolding pointsAt
+points-snoc s i zero = ap (λ k. pointAt s k ∷ []) (omega arith)
+points-snoc s i (suc n) =
+    ap (λ l. pointAt s i ∷ l) (points-snoc s (i + 3) n) ∙ ap (λ k. pointAt s i ∷ (pointsAt s (i + 3) n ++ (pointAt s k ∷ []))) (omega arith)
+
+point-put : (s : List Float) (j : ℕ) (q : Point3) → j + 3 ≤ length s → pointAt (sets s j (floats q)) j ≡ q
+point-put s j q h =
+    let e : sets s j (floats q) ≡ take j s ++ (floats q ++ drop (j + 3) s) = sets-eq (floats q) s j h ∙ append-assoc (take j s) (floats q) (drop (j + 3) s) in
+    let k : j ≡ length (take j s) = sym (length-take j s ∙ omega arith) in
+    ap (λ m. pointAt m j) e ∙ point-back (take j s) q (drop (j + 3) s) j k
+
+pub points-put : (s : List Float) (n : ℕ) (q : Point3) → 3 * n + 3 ≤ length s → pointsAt (sets s (3 * n) (floats q)) 0 (n + 1) ≡ pointsAt s 0 n ++ (q ∷ [])
+points-put s n q h =
+    ap (pointsAt (sets s (3 * n) (floats q)) 0) (add-one n)
+    ∙ points-snoc (sets s (3 * n) (floats q)) 0 n
+    ∙ ap (λ l. l ++ (pointAt (sets s (3 * n) (floats q)) (0 + 3 * n) ∷ [])) (points-before s 0 n (3 * n) (floats q) (omega arith))
+    ∙ ap (λ k. pointsAt s 0 n ++ (pointAt (sets s (3 * n) (floats q)) k ∷ [])) (omega arith)
+    ∙ ap (λ p. pointsAt s 0 n ++ (p ∷ [])) (point-put s (3 * n) q h)
+
+-- ---- a walk round the points in a slice: the next edge and the rest
+
+abbrev pair : Point3 → Point3 → Pair Point3
+pair a b = record { from = a; to = b }
+
+pub next-corner : (s : List Float) (at n i : ℕ) → i < n →
+    drop i (cyclic (pointsAt s at n)) ≡ record { from = pointAt s (at + 3 * i); to = pointAt s (at + 3 * ((i + 1) % n)) } ∷ drop (i + 1) (cyclic (pointsAt s at n))
+next-corner s at n i h =
+    let d = pointAt s at in
+    let len = length-pointsAt s at n in
+    let m : i < length (pointsAt s at n) = omega (arith, len) in
+    let e1 : getD (pointsAt s at n) i d ≡ pointAt s (at + 3 * i) = point-of s at n i d h in
+    let e2 : getD (pointsAt s at n) ((i + 1) % length (pointsAt s at n)) d ≡ pointAt s (at + 3 * ((i + 1) % n)) =
+    ap (λ k. getD (pointsAt s at n) ((i + 1) % k) d) len ∙ point-of s at n ((i + 1) % n) d (mod-lt (i + 1) (omega arith)) in
+    next-pair (pointsAt s at n) i d m
+    ∙ ap (λ a. pair a (getD (pointsAt s at n) ((i + 1) % length (pointsAt s at n)) d) ∷ drop (i + 1) (cyclic (pointsAt s at n))) e1
+    ∙ ap (λ b. pair (pointAt s (at + 3 * i)) b ∷ drop (i + 1) (cyclic (pointsAt s at n))) e2
+
+pub round-done : (s : List Float) (at n i : ℕ) → n ≤ i → drop i (cyclic (pointsAt s at n)) ≡ []
+round-done s at n i h =
+    let k : length (cyclic (pointsAt s at n)) ≤ i = omega (arith, length-cyclic (pointsAt s at n), length-pointsAt s at n) in
+    drop-of-length-le (cyclic (pointsAt s at n)) k
