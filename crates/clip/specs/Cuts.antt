@@ -43,8 +43,11 @@ cutFace t room w s f = then (cutRing t w (s .cap) (f .points)) (joined t room (s
 unfoldable pub closed : Precision → ℕ → Plane → Cutting → Outcome Cell
 closed t room w s = then (capOf t w (s .cap)) (λ l. addFace room (s .cell) (record { plane = w; points = l }))
 
+unfoldable pub cutFaces : Precision → ℕ → Plane → Cell → Outcome Cutting
+cutFaces t room w c = walk (cutFace t room w) (record { cell = []; cap = [] }) c
+
 unfoldable pub cutCell : Precision → ℕ → Plane → Cell → Outcome Cell
-cutCell t room w c = then (walk (cutFace t room w) (record { cell = []; cap = [] }) c) (closed t room w)
+cutCell t room w c = then (cutFaces t room w c) (closed t room w)
 
 abbrev pub asPart : Cell → Outcome Part
 asPart c = ok (part c)

@@ -31,7 +31,7 @@ use Rattle.room.specs.Laws.{all-none, all-snoc, all-map, all-both, all-in, all-
 use Rattle.room.specs.Steps.{then-ok, unless-ok, ok-same, walk-keeps, walk-back, walk-runs}
 use Rattle.ring.specs.Rings.{signOne, Ring, pushFace, pushCap, pushBoth, pushed, cutBy, cutEdge, cutRing}
 use Rattle.cell.specs.Cells.{isFull, addFace, keepFace, leftCell}
-use Rattle.clip.specs.Cuts.{signFace, signsOf, Cutting, joined, cutFace, closed, cutCell, asPart, clipBy, clip}
+use Rattle.clip.specs.Cuts.{signFace, signsOf, Cutting, joined, cutFace, closed, cutFaces, cutCell, asPart, clipBy, clip}
 
 -- every corner of a cell
 abbrev pub Corners : (Point3 → Type 0) → Cell → Type 0
@@ -204,7 +204,7 @@ module _ (P Z : Point3 → Type 0) (t : Precision) (w : Plane) where
 
   cut-closed : (cap-all : (Q : Point3 → Type 0) (l l′ : List Point3) → capOf t w l ≡ ok l′ → All Q l → All Q l′) →
       (room : ℕ) (c d : Cell) → All Fair c → cutCell t room w c ≡ ok d → Closed d
-  unfolding cutCell closed addFace
+  unfolding cutCell cutFaces closed addFace
   cut-closed cap-all room c d h e =
       let r = then-ok (walk (cutFace t room w) (record { cell = []; cap = [] }) c) (closed t room w) d e in
       let g = walk-keeps Whole (cutFace t room w) c (all-map Fair _ c (λ f k. face-whole room f k) h) (record { cell = []; cap = [] }) (r .0) (r .1) (record { cell = all-none _; cap = all-none Z }) in
