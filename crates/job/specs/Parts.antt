@@ -131,6 +131,12 @@ records-counted k n s (more {b} {bs} e r) =
     ∙ ap (λ x. suc (runOf k n x)) (drop-at b t n e)
     ∙ omega (arith, records-counted k n s r)
 
+pub length-records : (k n : ℕ) {bs : List (List ℕ)} (s : List ℕ) → Sized n bs → length (recordsTo k bs s) ≡ length bs * suc n + length s
+unfolding recordsTo
+length-records k n s none = omega (arith, zero-mul (suc n))
+length-records k n s (more {b} {bs} e r) =
+    omega (arith, length-append b (recordsTo k bs s), length-records k n s r, suc-mul (length bs) (suc n))
+
 pub records-passed : (k n : ℕ) {bs : List (List ℕ)} (s : List ℕ) → Sized n bs → drop (length bs * suc n) (recordsTo k bs s) ≡ s
 unfolding recordsTo
 records-passed k n s none = let z : zero * suc n ≡ 0 = zero-mul (suc n) in rw z refl
