@@ -133,6 +133,6 @@ pub record IsFacet (l : List ℕ) (j : Facet) : Type 0 where
   pub headed : length tolerances ≡ 16
   pub framed : length plane ≡ 96
   pub sized : Sized 24 bodies
-  pub bytes : l ≡ 1 ∷ tolerances ++ 9 ∷ plane ++ recordsTo 2 bodies []
+  pub bytes : l ≡ 1 ∷ tolerances ++ (9 ∷ plane ++ recordsTo 2 bodies [])
   pub short : length l ≤ 32768
   pub meaning : record { precision = precisionOf tolerances; plane = planeOf plane; points = map pointOf bodies } ≡ j

@@ -4,3 +4,6 @@ pub mod Bytes
 pub mod Runs
 pub mod Parts
 pub mod Sound
+pub mod Single
+pub mod Points
+pub mod Written

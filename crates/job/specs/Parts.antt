@@ -19,7 +19,7 @@ use Rattle.job.specs.Runs.{stands-parts, stands-body, run-step, run-none
 
 -- ---- sound
 
-records-sound : (k n c : ℕ) (s : List ℕ) → runOf k n s ≡ c → s ≡ recordsTo k (bodies n c s) (drop (c * suc n) s)
+pub records-sound : (k n c : ℕ) (s : List ℕ) → runOf k n s ≡ c → s ≡ recordsTo k (bodies n c s) (drop (c * suc n) s)
 unfolding recordsTo bodies
 records-sound k n zero s e = let z : zero * suc n ≡ 0 = zero-mul (suc n) in rw z refl
 records-sound k n (suc c) s e =
@@ -29,7 +29,7 @@ records-sound k n (suc c) s e =
     ∙ ap (λ x. k ∷ take n (drop 1 s) ++ x)
     (records-sound k n c r (run-rest k n c s e) ∙ ap (recordsTo k (bodies n c r)) (drop-drop (c * suc n) (suc n) s ∙ ap (λ x. drop x s) i))
 
-sized-sound : (k n c : ℕ) (s : List ℕ) → runOf k n s ≡ c → Sized n (bodies n c s)
+pub sized-sound : (k n c : ℕ) (s : List ℕ) → runOf k n s ≡ c → Sized n (bodies n c s)
 unfolding bodies
 sized-sound k n zero s e = none
 sized-sound k n (suc c) s e =
@@ -121,7 +121,7 @@ stands-made k n b s e =
     let y : leb n (length (b ++ s)) ≡ true = le-leb n _ (omega (arith, length-append b s)) in
     rw (x, y) refl
 
-records-counted : (k n : ℕ) {bs : List (List ℕ)} (s : List ℕ) → Sized n bs → runOf k n (recordsTo k bs s) ≡ length bs + runOf k n s
+pub records-counted : (k n : ℕ) {bs : List (List ℕ)} (s : List ℕ) → Sized n bs → runOf k n (recordsTo k bs s) ≡ length bs + runOf k n s
 unfolding recordsTo
 records-counted k n s none = omega arith
 records-counted k n s (more {b} {bs} e r) =
@@ -131,7 +131,13 @@ records-counted k n s (more {b} {bs} e r) =
     ∙ ap (λ x. suc (runOf k n x)) (drop-at b t n e)
     ∙ omega (arith, records-counted k n s r)
 
-records-passed : (k n : ℕ) {bs : List (List ℕ)} (s : List ℕ) → Sized n bs → drop (length bs * suc n) (recordsTo k bs s) ≡ s
+pub length-records : (k n : ℕ) {bs : List (List ℕ)} (s : List ℕ) → Sized n bs → length (recordsTo k bs s) ≡ length bs * suc n + length s
+unfolding recordsTo
+length-records k n s none = omega (arith, zero-mul (suc n))
+length-records k n s (more {b} {bs} e r) =
+    omega (arith, length-append b (recordsTo k bs s), length-records k n s r, suc-mul (length bs) (suc n))
+
+pub records-passed : (k n : ℕ) {bs : List (List ℕ)} (s : List ℕ) → Sized n bs → drop (length bs * suc n) (recordsTo k bs s) ≡ s
 unfolding recordsTo
 records-passed k n s none = let z : zero * suc n ≡ 0 = zero-mul (suc n) in rw z refl
 records-passed k n s (more {b} {bs} e r) =
@@ -142,7 +148,7 @@ records-passed k n s (more {b} {bs} e r) =
     ∙ ap (drop (length bs * suc n)) (drop-at b t n e)
     ∙ records-passed k n s r
 
-records-kept : (k n : ℕ) {bs : List (List ℕ)} (s : List ℕ) → Sized n bs → bodies n (length bs) (recordsTo k bs s) ≡ bs
+pub records-kept : (k n : ℕ) {bs : List (List ℕ)} (s : List ℕ) → Sized n bs → bodies n (length bs) (recordsTo k bs s) ≡ bs
 unfolding recordsTo bodies
 records-kept k n s none = refl
 records-kept k n s (more {b} {bs} e r) =
