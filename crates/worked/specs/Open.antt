@@ -12,6 +12,13 @@ use Rattle.space.specs.Frames.{short, frameOn, frameBy, hintOn, frameAlong, fra
 use Rattle.space.specs.Near.{closenessOf, gapI, nearOf}
 use Rattle.space.specs.Shapes.{corners, allCorners}
 use Rattle.side.specs.Sides.{distanceOf, heightOf, classed, sideOf, oppositeOf}
+use Rattle.polygon.specs.Unique.{both, scan, keepIf, keepOne, unique}
+use Rattle.hull.specs.Hull.{flatOn, beforeFlat, insertFlat, sortFlat, turn, chainOne, chain, ringed, chains, hullOn, hull, capFace, capOf}
+use Rattle.edge.specs.Meets.{noted, atCorner, heldBack, cornerMeet, crosses, noRatio, between, landed, cutMeet, edgeMeet}
+use Rattle.ring.specs.Rings.{signOne, pushFace, pushCap, pushBoth, pushed, cutBy, cutEdge, cutRing}
+use Rattle.cell.specs.Cells.{isFull, addFace, keepFace, leftCell}
+use Rattle.clip.specs.Cuts.{signFace, signsOf, joined, cutFace, closed, cutFaces, cutCell, clipBy, clip}
+use Rattle.indexed.specs.Indexed.{placeIn, indexPoint, indexFace, indexed}
 
 unfoldable pub openNumbers : Unit {0}
 unfolding dotI differenceI crossI addI subI mulI outward hullOf squareOf sqrI holdsZero signOf inverseOf nextUp nextDown nextBits add sub mul div neg lt le eq isNan toBits ofBits sqrtOf orientOf
@@ -24,3 +31,11 @@ openSpace = tt
 unfoldable pub openSide : Unit {0}
 unfolding openSpace distanceOf heightOf classed sideOf oppositeOf
 openSide = tt
+
+unfoldable pub openCut : Unit {0}
+unfolding openSide both scan keepIf keepOne unique flatOn beforeFlat insertFlat sortFlat turn chainOne chain ringed chains hullOn hull capFace capOf noted atCorner heldBack cornerMeet crosses noRatio between landed cutMeet edgeMeet signOne pushFace pushCap pushBoth pushed cutBy cutEdge cutRing isFull addFace keepFace leftCell signFace signsOf joined cutFace closed cutFaces cutCell clipBy clip
+openCut = tt
+
+unfoldable pub openIndexed : Unit {0}
+unfolding openSide placeIn indexPoint indexFace indexed
+openIndexed = tt
