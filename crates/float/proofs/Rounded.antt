@@ -1,18 +1,18 @@
 -- One account for every operation: r is the rounding of the exact number (p - n) / c units, so nextUp r is at least that number and nextDown r at most. Assumes nothing.
 use mathlib.Core.Path.{_≡_, refl, sym, ap, _∙_, subst}
-use mathlib.Core.Bool.{Bool, true, false, true≢false, not, _&&_, Bool·beq, cond}
+use mathlib.Core.Bool.{Bool, true, false, not, _&&_, cond}
 use Prim.Native.Nat.{ℕ, zero, suc, _+_, _-_, _*_, _/_, _^_, _≤_, _<_}
-use native.Mathlib.Nat.{mul-zero, add-zero, zero-add, le-trans, le-of-eq, le-of-lt, le-antisymm, mul-assoc, mul-comm, mul-right-comm, mul-mul-mul-comm, le-of-mul-le-mul-right, mul-pos, mul-div-cancel, zero-mul, add-mul, mul-sub, mul-le-mul-right}
+use native.Mathlib.Nat.{mul-zero, add-zero, zero-add, le-trans, le-of-eq, le-of-lt, mul-assoc, mul-comm, mul-right-comm, mul-mul-mul-comm, le-of-mul-le-mul-right, mul-pos, mul-div-cancel, zero-mul, add-mul, mul-sub, mul-le-mul-right}
 use native.Mathlib.Omega.{arith}
 use lib.Dec.{T, ltb, ltb→lt, nltb→le}
-use lib.IntN.{ℤ, pos, negsuc}
-use lib.Ieee.{Float, nan, inf, fin, Format, binary64, prec, low, emax, up, down, unlike, odd, units, round, fits, neg, add, sub, mul, sum}
-use lib.Ieee.Fits.{down-pos, neg-fits, round-is}
+use lib.IntN.{ℤ}
+use lib.Ieee.{Float, nan, inf, fin, Format, binary64, prec, low, emax, up, down, unlike, odd, units, round, fits, neg, add, mul, sum}
+use lib.Ieee.Fits.{down-pos, round-is}
 use lib.Ieee.Scale.{round-same}
 use lib.Pow.{pow-pos}
 use Rattle.float.specs.Float.{nextUp, nextDown, finite}
 use Rattle.float.specs.Exact.{plus, minus, AtMost, AtLeast}
-use Rattle.float.proofs.Steps.{val, Placed, placed, placed-val}
+use Rattle.float.proofs.Steps.{val, placed, placed-val}
 use Rattle.float.proofs.Rounds.{Above, up-sound}
 
 pub record Rounded (r : Float) (p n c : ℕ) : Type 0 where
@@ -35,16 +35,16 @@ units-neg f s q k = go (ltb (q * 2 ^ k) (2 ^ (low f + suc (emax f))))
     go true = odd-neg (suc (prec f)) s q k (low f)
     go false = unfold neg in refl
 
-round-neg : (f : Format) (s : Bool) (a c : ℕ) → neg (round f s a c) ≡ round f (not s) a c
+pub round-neg : (f : Format) (s : Bool) (a c : ℕ) → neg (round f s a c) ≡ round f (not s) a c
 round-neg f s a c = ap neg (round-is f s a c) ∙ units-neg f s _ _ ∙ sym (round-is f (not s) a c)
 
-neg-finite : (x : Float) → finite (neg x) ≡ finite x
+pub neg-finite : (x : Float) → finite (neg x) ≡ finite x
 unfolding neg
 neg-finite nan = refl
 neg-finite (inf s) = refl
 neg-finite (fin s m e) = refl
 
-neg-plus : (x : Float) → (plus (neg x) ≡ minus x) × (minus (neg x) ≡ plus x)
+pub neg-plus : (x : Float) → (plus (neg x) ≡ minus x) × (minus (neg x) ≡ plus x)
 unfolding neg
 neg-plus nan = (refl, refl)
 neg-plus (inf s) = (refl, refl)
@@ -55,7 +55,7 @@ swap : (s : Bool) (a : ℕ) → (cond (not s) 0 a ≡ cond s a 0) × (cond (not 
 swap true a = (refl, refl)
 swap false a = (refl, refl)
 
-other : {r : Float} {p n c : ℕ} → Rounded r p n c → Rounded (neg r) n p c
+pub other : {r : Float} {p n c : ℕ} → Rounded r p n c → Rounded (neg r) n p c
 other {r} {p} {n} {c} h = record {
   sign = not (h .sign);
   size = h .size;

@@ -1,9 +1,16 @@
-// f64 from the bits: IEEE 754's nextUp, nextDown, abs, the lesser and the greater of two, and the
-// order of totalOrder. Each contract is one equation with a definition of `specs/Float.antt`.
+// f64 from the bits: patterns, IEEE 754's nextUp, nextDown and abs, the lesser and the greater of two,
+// and the order of totalOrder. Each contract is one equation with a definition of `specs/Float.antt`
+// or of the library's IEEE 754; `proofs/Laws.antt` has the laws that callers cite.
 ghost use mathlib.Core.Path.{_≡_};
-ghost use mathlib.Core.Bool.{false, _||_};
+ghost use mathlib.Core.Bool.{false, _||_, cond};
+ghost use Prim.Native.Nat.{_%_, _≤_};
 ghost use lib.Ieee.{isNan, inf, binary64, toBits, ofBits};
-ghost use Rattle.float.specs.Float.{nextBits, negative, nextUp, nextDown, abs, finite, lesser, greater, before};
+ghost use Rattle.float.specs.Float.{infBits, signBit, nextBits, negative, nextUp, nextDown, abs, finite, lesser, greater, before};
+
+// The patterns of -0 and of +infinity.
+const SIGN_BIT: u64 = 0x8000_0000_0000_0000;
+
+const INF_BITS: u64 = 0x7ff0_0000_0000_0000;
 
 pub fn is_nan(x: f64) -> bool
     ensures { λ r. ⌜ r ≡ isNan x ⌝ }
@@ -25,26 +32,27 @@ pub fn bits_of(x: f64) -> u64
 pub fn float_of(b: u64) -> f64
     ensures { λ r. ⌜ r ≡ ofBits binary64 b ⌝ }
 {
-    if b % 0x8000_0000_0000_0000 <= 0x7ff0_0000_0000_0000 {
+    if b % SIGN_BIT <= INF_BITS {
         return f64::from_bits(b);
     }
     0.0 / 0.0
 }
 
-// The pattern after b.
+fn pick(t: bool, x: u64, y: u64) -> u64
+    ensures { λ r. ⌜ r ≡ cond t x y ⌝ }
+{
+    if t { x } else { y }
+}
+
+// The pattern after b, which is no NaN's. It has no branch on the sign, which no processor guesses:
+// one more, and two less where the sign is set.
 fn next_bits(b: u64) -> u64
+    requires { ⌜ b % signBit ≤ infBits ⌝ }
     ensures { λ r. ⌜ r ≡ nextBits b ⌝ }
 {
-    if b < 0x7ff0_0000_0000_0000 {
-        return b + 1;
-    }
-    if b == 0x7ff0_0000_0000_0000 {
-        return b;
-    }
-    if b == 0x8000_0000_0000_0000 {
-        return 1;
-    }
-    b - 1
+    let stepped = b - 2 * (b / SIGN_BIT) + 1;
+    let up = pick(b == SIGN_BIT, 1, stepped);
+    pick(b == INF_BITS, b, up)
 }
 
 pub fn next_up(x: f64) -> f64
@@ -69,7 +77,7 @@ pub fn is_negative(x: f64) -> bool
     if is_nan(x) {
         return false;
     }
-    f64::to_bits(x) >= 0x8000_0000_0000_0000
+    f64::to_bits(x) >= SIGN_BIT
 }
 
 pub fn abs(x: f64) -> f64
@@ -115,7 +123,7 @@ pub fn before(x: f64, y: f64) -> bool
 pub fn infinity() -> f64
     ensures { λ r. ⌜ r ≡ inf false ⌝ }
 {
-    f64::from_bits(0x7ff0_0000_0000_0000)
+    f64::from_bits(INF_BITS)
 }
 
 pub fn either_nan(x: f64, y: f64) -> bool

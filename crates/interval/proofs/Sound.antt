@@ -1,15 +1,16 @@
 -- Where the operands hold the exact numbers, the stepped sum holds the exact sum. Assumes nothing.
-use mathlib.Core.Path.{_≡_, refl, sym, ap, _∙_, subst}
-use mathlib.Core.Bool.{Bool, true, false, _||_, cond}
-use Prim.Native.Nat.{ℕ, _+_, _≤_}
+use mathlib.Core.Path.{_≡_, refl, sym, subst}
+use mathlib.Core.Bool.{false}
+use Prim.Native.Nat.{ℕ, _+_}
 use native.Mathlib.Omega.{arith}
 use lib.Dec.{T}
 use lib.Ieee.{Float, nan, inf, fin, binary64, isNan, fits, add}
 use Rattle.float.specs.Float.{nextUp, nextDown, finite}
-use Rattle.float.specs.Exact.{plus, minus, AtMost, AtLeast}
+use Rattle.float.specs.Exact.{AtMost, AtLeast}
 use Rattle.float.proofs.Rounded.{add-up, add-down}
 use Rattle.interval.specs.declared.Interval.{Interval}
-use Rattle.interval.specs.Ends.{whole, outward, addI}
+use Rattle.interval.specs.Ends.{addI}
+use Rattle.interval.proofs.Laws.{stepped}
 
 -- the exact number p - n units lies between the ends
 pub record Holds (a : Interval) (p n : ℕ) : Type 0 where
@@ -28,10 +29,6 @@ unfolding isNan
 number nan h = absurd h
 number (inf s) h = absurd h
 number (fin s m e) h = refl
-
-stepped : (l h : Float) → isNan l ≡ false → isNan h ≡ false → outward l h ≡ record { lo = nextDown l; hi = nextUp h }
-unfolding outward
-stepped l h p q = ap (λ (b : Bool). cond (b || isNan h) whole (record { lo = nextDown l; hi = nextUp h })) p ∙ ap (λ (b : Bool). cond b whole (record { lo = nextDown l; hi = nextUp h })) q
 
 pub add-holds : (a b : Interval) (p n q m : ℕ) → Finite a → Finite b → T (finite (add binary64 (a .lo) (b .lo))) → T (finite (add binary64 (a .hi) (b .hi)))
     → T (finite (nextDown (add binary64 (a .lo) (b .lo)))) → T (finite (nextUp (add binary64 (a .hi) (b .hi))))

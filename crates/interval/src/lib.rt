@@ -1,16 +1,17 @@
 // Intervals of f64 and three-element arrays of them. Each contract is one equation with a
-// definition of `specs/`.
+// definition of `specs/`; `proofs/Laws.antt` has the laws that callers cite.
 ghost use mathlib.Core.Path.{_≡_};
 ghost use mathlib.Core.Bool.{cond};
 ghost use Rattle.float.specs.Float.{greater};
 ghost use Rattle.interval.specs.Ends.{zero, whole, pointI, outward, addI, subI, hullOf, mulI, contains, holdsZero, squareOf, sqrI, signOf, inverseOf};
-ghost use Rattle.interval.specs.Box.{dotI, dot0, differenceI, residualI, minorI, crossI};
+ghost use Rattle.interval.specs.Box.{dotI, dot0, differenceI, residualI, crossI};
 
 pub struct Interval {
     pub lo: f64,
     pub hi: f64,
 }
 
+// What is certain of an interval's sign; `Unknown` where neither sign is, nor zero.
 pub enum Sign {
     Positive,
     Negative,
@@ -18,6 +19,7 @@ pub enum Sign {
     Unknown,
 }
 
+// A reciprocal; `Nothing` where the interval is not certainly positive.
 pub enum Inverse {
     Value(Interval),
     Nothing,
@@ -43,14 +45,20 @@ fn unless(bad: bool, i: Interval) -> Interval
     if bad { whole() } else { i }
 }
 
+// Each NaN is tested by itself, so that the steps need not test again.
 fn outward(l: f64, h: f64) -> Interval
     ensures { λ r. ⌜ r ≡ outward l h ⌝ }
 {
-    let stepped = Interval {
+    if float::is_nan(l) {
+        return whole();
+    }
+    if float::is_nan(h) {
+        return whole();
+    }
+    Interval {
         lo: float::next_down(l),
         hi: float::next_up(h),
-    };
-    unless(float::either_nan(l, h), stepped)
+    }
 }
 
 pub fn add(a: Interval, b: Interval) -> Interval
@@ -136,7 +144,7 @@ pub fn sign_of(a: Interval) -> Sign
 pub fn reciprocal(a: Interval) -> Inverse
     ensures { λ r. ⌜ r ≡ inverseOf a ⌝ }
 {
-    if a.lo > 0.0 {
+    if 0.0 < a.lo {
         return Inverse::Value(outward(1.0 / a.hi, 1.0 / a.lo));
     }
     Inverse::Nothing

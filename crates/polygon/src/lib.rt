@@ -1,12 +1,28 @@
 // A polygon is a record of up to 128 corners.
+use refusal::Refusal;
+use refusal::Verdict;
+use space::Closeness;
 use space::Point3;
+use space::Precision;
 ghost use mathlib.Core.Path.{_≡_};
 ghost use mathlib.Core.List.{[]};
-ghost use Rattle.polygon.specs.Polygons.{polygon};
+ghost use Prim.Native.Nat.{_+_, _≤_, min};
+ghost use lib.ListN.{length};
+ghost use lib.Seq.{sets};
+ghost use Rattle.refusal.specs.Outcome.{refused};
+ghost use Rattle.polygon.specs.Polygons.{cornersOf, polygon, made};
+ghost use Rattle.polygon.specs.Memory.{floats, pointAt};
+ghost use Rattle.polygon.specs.Unique.{both, unique};
 
 pub struct Polygon {
     pub at: [Point3; 128],
     pub n: usize,
+}
+
+// A polygon where the verdict is fine, else an empty one.
+pub struct Made {
+    pub verdict: Verdict,
+    pub polygon: Polygon,
 }
 
 pub fn empty() -> Polygon
@@ -19,5 +35,93 @@ pub fn empty() -> Polygon
             z: 0.0,
         }; 128],
         n: 0,
+    }
+}
+
+pub fn none(r: Refusal) -> Made
+    ensures { λ m. ⌜ m ≡ made (refused r) ⌝ }
+{
+    Made {
+        verdict: Verdict::Refused(r),
+        polygon: empty(),
+    }
+}
+
+pub fn put_point(s: &mut [f64], at: usize, p: Point3)
+    requires { ⌜ at + 3 ≤ length (now s) ⌝ }
+    ensures { λ _. ⌜ now (s .exit) ≡ sets (now (s .entry)) at (floats p) ⌝ }
+{
+    s[at] = p.x;
+    s[at + 1] = p.y;
+    s[at + 2] = p.z;
+}
+
+pub fn get_point(s: &[f64], at: usize) -> Point3
+    requires { ⌜ at + 3 ≤ length (now s) ⌝ }
+    ensures { λ r. ⌜ r ≡ pointAt (now (s .entry)) at ⌝ }
+{
+    Point3 {
+        x: s[at],
+        y: s[at + 1],
+        z: s[at + 2],
+    }
+}
+
+// What two tests say together.
+pub fn both(s: Closeness, c: Closeness) -> Closeness
+    ensures { λ r. ⌜ r ≡ both s c ⌝ }
+{
+    match s {
+        Closeness::Refused(_) => s,
+        Closeness::Apart => c,
+        Closeness::Near => match c {
+            Closeness::Refused(_) => c,
+            Closeness::Apart => s,
+            Closeness::Near => s,
+        },
+    }
+}
+
+// How many corners an array of 128 holds of n.
+fn at_most_all(n: usize) -> usize
+    ensures { λ r. ⌜ r ≡ min n 128 ⌝ }
+{
+    if n < 128 { n } else { 128 }
+}
+
+// The corners without those that are near one before them. Both loops stand here, so that no polygon is copied for a corner.
+pub fn unique(p: Polygon, t: Precision) -> Made
+    ensures { λ r. ⌜ r ≡ made (unique t (cornersOf p)) ⌝ }
+    ensures { λ r. ⌜ r .polygon .n ≤ 128 ⌝ }
+{
+    let n = at_most_all(p.n);
+    let mut out = empty();
+    let mut m = 0;
+    let mut i = 0;
+    while i < n {
+        let q = p.at[i];
+        let mut s = Closeness::Apart;
+        let mut j = 0;
+        while j < m {
+            let r = out.at[j];
+            s = both(s, space::near(t, q, r));
+            j += 1;
+        }
+        match s {
+            Closeness::Refused(r) => {
+                return none(r);
+            }
+            Closeness::Near => {}
+            Closeness::Apart => {
+                out.at[m] = q;
+                m += 1;
+            }
+        }
+        i += 1;
+    }
+    out.n = m;
+    Made {
+        verdict: Verdict::Fine,
+        polygon: out,
     }
 }

@@ -4,15 +4,10 @@ use Rattle.float.specs.Float.{nextDown}
 use borrow.Author.Needs.{needs}
 use Rattle.float.proofs.next_down.Statement.{statement}
 use Rattle.float.proofs.next_down.Tie as tie
-use Rattle.float.proofs.next_down.Reads as reads
-use Rattle.float.proofs.next_down.Lts as lts
-use Rattle.float.proofs.next_up.Reads as next-up-reads
 
--- src/lib.rt:35:6
 next-up-requires : tie.Need-next-up-requires
 next-up-requires c κs = search needs
 
--- src/lib.rt:32:1
 returns : tie.Need-returns
 unfolding nextDown
 returns c = ap neg (c .next-up .ensures)

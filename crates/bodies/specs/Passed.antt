@@ -1,0 +1,51 @@
+-- What an answer tells of the steps that gave it.
+use mathlib.Core.Path.{_≡_, refl, sym, ap, _∙_}
+use mathlib.Core.Bool.{Bool, true, false, _||_}
+use mathlib.Core.List.{List, [], _∷_, _++_, append-assoc, append-nil}
+use Prim.Native.Nat.{ℕ}
+use native.Mathlib.Omega.{arith}
+use Rattle.refusal.specs.Outcome.{Outcome, ok, refused, then, unless, walk, each}
+use Rattle.sums.specs.Sum.{Each}
+
+never : {A B : Type 0} (r : _) (a : A) → _≡_ {A = Outcome A} (refused r) (ok a) → B
+never r a e = let z : _≡_ {A = ℕ} 0 1 = cc in absurd (omega arith)
+
+pub then-ok : {A B : Type 0} (o : Outcome A) (f : A → Outcome B) (b : B) → then o f ≡ ok b → (a : A) × (o ≡ ok a) × (f a ≡ ok b)
+then-ok (ok a) f b e = (a, refl, e)
+then-ok (refused r) f b e = never r b e
+
+pub unless-ok : {A : Type 0} (t : Bool) (n : ℕ) (o : Outcome A) (a : A) → unless t n o ≡ ok a → (t ≡ false) × (o ≡ ok a)
+unless-ok true n o a e = never _ a e
+unless-ok false n o a e = (refl, e)
+
+pub or-false : (a b : Bool) → (a || b) ≡ false → (a ≡ false) × (b ≡ false)
+or-false true b e = let z : _≡_ {A = ℕ} 0 1 = cc in absurd (omega arith)
+or-false false b e = (refl, e)
+
+-- every test of a walk passed
+pub walk-ok : {A : Type 0} (t : A → Outcome (Unit {0})) (l : List A) (u : Unit {0}) → walk (λ _ x. t x) tt l ≡ ok u → Each (λ x. t x ≡ ok tt) l
+unfolding walk
+walk-ok t [] u e = tt
+walk-ok t (x ∷ l) u e = let h = then-ok (t x) (λ _. walk (λ _ x. t x) tt l) u e in (h .1, walk-ok t l u (h .2))
+
+-- each element of the second list is what f made of the first's at that place
+abbrev pub Made : {A B : Type 0} → (A → Outcome B) → List A → List B → Type 0
+Made f [] [] = Unit {0}
+Made f [] (y ∷ ys) = ⊥
+Made f (x ∷ l) [] = ⊥
+Made f (x ∷ l) (y ∷ ys) = (f x ≡ ok y) × Made f l ys
+
+pub each-ok : {A B : Type 0} (f : A → Outcome B) (acc : List B) (l : List A) (ys : List B) → each f acc l ≡ ok ys → (zs : List B) × (ys ≡ acc ++ zs) × Made f l zs
+unfolding each
+each-ok f acc [] ys e = ([], (let h : acc ≡ ys = cc in sym h ∙ sym (append-nil acc)), tt)
+each-ok f acc (x ∷ l) ys e =
+    let h = then-ok (f x) (λ y. each f (acc ++ (y ∷ [])) l) ys e in
+    let r = each-ok f (acc ++ (h .0 ∷ [])) l ys (h .2) in
+    (h .0 ∷ r .0, r .1 ∙ append-assoc acc (h .0 ∷ []) (r .0), (h .1, r .2))
+
+-- a property of what was made, by a property of what it was made of
+pub made-each : {A B : Type 0} (f : A → Outcome B) (P : A → Type 0) (Q : B → Type 0) (l : List A) (ys : List B) → ((x : A) (y : B) → f x ≡ ok y → P x → Q y) → Made f l ys → Each P l → Each Q ys
+made-each f P Q [] [] h m e = tt
+made-each f P Q [] (y ∷ ys) h m e = absurd m
+made-each f P Q (x ∷ l) [] h m e = absurd m
+made-each f P Q (x ∷ l) (y ∷ ys) h m e = (h x y (m .0) (e .0), made-each f P Q l ys h (m .1) (e .1))

@@ -1,0 +1,4 @@
+pub mod Cuts
+pub mod Theorem
+pub mod Clips
+pub mod Laws

@@ -1,0 +1,5 @@
+pub mod Chain
+pub mod Stack
+pub mod Walk
+pub mod Groups
+pub mod Fill

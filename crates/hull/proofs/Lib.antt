@@ -1,0 +1,4 @@
+pub mod Points
+pub mod Stacks
+pub mod Climbs
+pub mod Rings

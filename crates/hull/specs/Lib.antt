@@ -1,0 +1,4 @@
+pub mod Hull
+pub mod Layout
+pub mod Laws
+pub mod Members

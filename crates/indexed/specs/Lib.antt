@@ -1,0 +1,3 @@
+pub mod Indexed
+pub mod Stored
+pub mod Laws

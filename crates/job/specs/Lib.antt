@@ -1,0 +1,9 @@
+pub mod Records
+pub mod Read
+pub mod Bytes
+pub mod Runs
+pub mod Parts
+pub mod Sound
+pub mod Single
+pub mod Points
+pub mod Written

@@ -1,0 +1,5 @@
+pub mod Rows
+pub mod Lex
+pub mod Put
+pub mod Sort
+pub mod Each

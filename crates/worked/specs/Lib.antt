@@ -1,0 +1,3 @@
+pub mod Shapes
+pub mod Open
+pub mod Worked

@@ -1,0 +1,203 @@
+//! Families of jobs.
+use crate::random::Random;
+use crate::solid::{ball, cube, cuboid, gem, prism, tetrahedron, Reshape};
+use oracle::{Job, Operation, Point, Solid, Tolerances};
+
+/// How [c, d] can lie to [0, 3]: one for each relation of two ranges.
+const RANGES: [[f64; 2]; 13] = [
+    [-2.0, -1.0],
+    [-1.0, 0.0],
+    [-1.0, 1.0],
+    [-1.0, 3.0],
+    [-1.0, 4.0],
+    [0.0, 1.0],
+    [0.0, 3.0],
+    [0.0, 4.0],
+    [1.0, 2.0],
+    [1.0, 3.0],
+    [1.0, 4.0],
+    [3.0, 4.0],
+    [4.0, 5.0],
+];
+
+/// How many jobs `lattice` numbers.
+pub const LATTICE: usize = 13 * 13 * 13 * 3;
+
+/// Box 0..3 and a box in each lattice position to it, under each operation.
+pub fn lattice(index: usize) -> Job {
+    let range = |k: u32| RANGES[index / 3 / 13usize.pow(k) % 13];
+    let ranges = [range(0), range(1), range(2)];
+    let second = cuboid(ranges.map(|r| r[0]), ranges.map(|r| r[1]));
+    Job::usual(cube(0.0, 3.0), second, Operation::ALL[index % 3])
+}
+
+/// Tolerances at both ends of their range, the usual ones, and some between.
+pub fn tolerances(random: &mut Random) -> Tolerances {
+    let power = |n: usize| 1.0 / (1u64 << n) as f64;
+    let (linear, local) = match random.below(8) {
+        0 => (40, 40),
+        1 => (40, 4),
+        2 => (4, 4),
+        3 => {
+            let local = random.between(4, 40);
+            (random.between(local, 40), local)
+        }
+        _ => return Tolerances::USUAL,
+    };
+    Tolerances {
+        linear: power(linear),
+        local: power(local),
+    }
+}
+
+fn around(random: &mut Random, size: f64) -> Point {
+    [(); 3].map(|()| random.signed() * size)
+}
+
+/// A solid of some family, of size about one around the origin.
+pub fn solid(random: &mut Random, most_faces: usize) -> Solid {
+    let most = most_faces.clamp(6, 64);
+    let solid = match random.below(6) {
+        0 => cube(-1.0, 1.0),
+        1 => tetrahedron(1.0 + random.unit()),
+        2 => prism(random.between(3, most - 2), 1.0, 1.0),
+        3 => ball(random, 4 + (most - 4) / 2),
+        _ => {
+            let faces = random.between(5, most);
+            gem(random, faces)
+        }
+    };
+    match random.coin() {
+        true => solid.reordered(random),
+        false => solid,
+    }
+}
+
+fn operation(random: &mut Random) -> Operation {
+    random.pick(&Operation::ALL)
+}
+
+/// Two solids of any family that mostly overlap.
+pub fn overlapping(random: &mut Random, most_faces: usize) -> Job {
+    let (a, b) = (solid(random, most_faces), solid(random, most_faces));
+    let (turn, by) = (random.signed(), around(random, 0.7));
+    Job {
+        tolerances: tolerances(random),
+        first: a,
+        second: b.turned(turn).shifted(by),
+        operation: operation(random),
+    }
+}
+
+/// Two gems of many faces, for time and room.
+pub fn large(random: &mut Random, faces: usize) -> Job {
+    let (a, b) = (gem(random, faces), gem(random, faces));
+    let by = around(random, 0.3);
+    Job::usual(a, b.shifted(by), operation(random))
+}
+
+/// A box and its neighbour across a gap of 0, 0.5, 1, 1.5 or 2 times local, either way.
+pub fn gap(random: &mut Random) -> Job {
+    let t = tolerances(random);
+    let sign = random.pick(&[-1.0, 1.0]);
+    let mut by = [0.0; 3];
+    let axes = random.between(1, 3);
+    for (k, step) in by.iter_mut().enumerate().take(axes) {
+        let share = random.pick(&[0.0, 0.5, 1.0, 1.5, 2.0]);
+        let whole = if k == 0 { 1.0 } else { 0.0 };
+        *step = whole + sign * share * t.local;
+    }
+    by.rotate_left(random.below(3));
+    Job {
+        tolerances: t,
+        first: cube(0.0, 1.0),
+        second: cube(0.0, 1.0).shifted(by),
+        operation: operation(random),
+    }
+}
+
+/// A solid and a copy, turned and shifted by little more or less than local.
+pub fn turned(random: &mut Random, most_faces: usize) -> Job {
+    let t = tolerances(random);
+    let first = solid(random, most_faces);
+    let turn = random.pick(&[0.0, 0.25, 0.5, 1.0, 4.0]) * t.local;
+    let by = around(random, 2.0 * t.local);
+    let beside = match random.coin() {
+        true => [1.0, 0.0, 0.0],
+        false => [0.0; 3],
+    };
+    let second = first.turned(turn).shifted(by).shifted(beside);
+    Job {
+        tolerances: t,
+        first,
+        second,
+        operation: operation(random),
+    }
+}
+
+/// Solids with coordinates up to 2^20.
+pub fn far(random: &mut Random, most_faces: usize) -> Job {
+    let mut job = overlapping(random, most_faces);
+    let size = (1u64 << random.between(1, 18)) as f64;
+    let by = around(random, 1_000_000.0 - 3.0 * size);
+    let place = |s: &Solid| s.scaled(size / 4.0).shifted(by);
+    job.first = place(&job.first);
+    job.second = place(&job.second);
+    job
+}
+
+/// A box whose edge is about local, beside or across a larger one.
+pub fn thin(random: &mut Random) -> Job {
+    let t = tolerances(random);
+    let edge = random.pick(&[0.5, 1.0, 1.0, 1.5, 2.0, 3.0]) * t.local;
+    let edge = random.pick(&[edge, edge.next_up(), edge.next_down()]);
+    let low = random.pick(&[-0.5, 0.0, 0.5, 1.0]);
+    let mut first = cube(0.0, 1.0);
+    let mut second = cuboid([low, -0.5, 0.25], [low + edge, 0.5, 0.75]);
+    if random.coin() {
+        std::mem::swap(&mut first, &mut second);
+    }
+    Job {
+        tolerances: t,
+        first,
+        second,
+        operation: operation(random),
+    }
+}
+
+/// A box whose upright edge stands about local off that of another, near both its faces.
+pub fn edge_contact(random: &mut Random) -> Job {
+    let t = tolerances(random);
+    let [a, b] = random.pick(&[[0.6, 0.8], [0.6, -0.8], [0.3, 0.4], [0.6, 0.75], [0.9, 0.9]]);
+    let up = random.pick(&[-1.0, -0.5, 0.0, t.local]);
+    Job {
+        tolerances: t,
+        first: cube(-1.0, 0.0),
+        second: cube(0.0, 1.0).shifted([a * t.local, b * t.local, up]),
+        operation: operation(random),
+    }
+}
+
+/// Boxes on a lattice, shrunk towards the size where frames fail.
+pub fn small(random: &mut Random) -> Job {
+    let size = 1.0 / (1u64 << random.between(6, 12)) as f64;
+    let mut job = lattice(random.below(LATTICE));
+    job.first = job.first.scaled(size);
+    job.second = job.second.scaled(size);
+    job
+}
+
+/// A job of any family.
+pub fn any(random: &mut Random) -> Job {
+    match random.below(10) {
+        0 => lattice(random.below(LATTICE)),
+        1 => gap(random),
+        2 => turned(random, 12),
+        3 => far(random, 10),
+        4 => small(random),
+        5 => thin(random),
+        6 => edge_contact(random),
+        7 => overlapping(random, 24),
+        _ => overlapping(random, 10),
+    }
+}

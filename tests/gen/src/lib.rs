@@ -1,0 +1,12 @@
+//! A seeded generator: jobs, cells and facets as bytes, damaged ones, and questions at the edges of the leaves.
+pub mod cells;
+pub mod damage;
+pub mod facets;
+pub mod jobs;
+pub mod leaves;
+pub mod pairs;
+pub mod random;
+pub mod replay;
+pub mod solid;
+
+pub use random::Random;

@@ -1,0 +1,3 @@
+//! The archives of the port, as Rust calls them: plain types in, plain types out.
+pub mod guard;
+pub mod leaves;
