@@ -7,7 +7,7 @@ use native.Mathlib.Omega.{arith}
 use native.Mathlib.Numerals.{add-one}
 use native.Mathlib.Decide.{decLt}
 use native.Mathlib.Nat.{mod-lt, not-suc-le-zero, le-of-suc-le-suc}
-use lib.ListN.{length, take, drop, getD, set, replicate, length-append}
+use lib.ListN.{length, take, drop, getD, set}
 use lib.Seq.{getD-take, length-take-le, take-at, take-suc, take-all}
 use lib.Dec.{ltb}
 use borrow.Author.Tests.{lt-ltb, le-ltb}
@@ -26,7 +26,7 @@ use Rattle.ears.specs.declared.Block.{Block}
 use Rattle.ears.specs.declared.Block.the-variants as B
 use Rattle.ears.specs.declared.Found.{Found}
 use Rattle.ears.specs.declared.Found.the-variants as F
-use Rattle.ears.specs.Places.{padded, active, placesOf, upFrom, without, pastOf, windowIn, windowAt}
+use Rattle.ears.specs.Places.{padded, active, placesOf, upFrom, without, pastOf, windowAt}
 use Rattle.ears.specs.Ears.{turnAt, insideOf, cornerOf, blockIn, blockAt, orElse, blockedBy, earBy, foundBy, foundAt, scanFrom, scanOf}
 
 -- ---- lists of places in an array

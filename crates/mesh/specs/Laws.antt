@@ -5,33 +5,27 @@ use mathlib.Core.Logic.{_⊎_, inl, inr, ⊎-elim}
 use mathlib.Core.List.{List, [], _∷_, _++_}
 use Prim.Native.Nat.{ℕ, zero, suc, _+_, _-_, _*_, _/_, _≤_, _<_}
 use native.Mathlib.Omega.{arith}
-use native.Mathlib.Numerals.{add-one}
 use native.Mathlib.Decide.{decLt}
 use lib.ListN.{length, take, getD, set, length-append, List·getD-eq-default}
 use lib.Seq.{getD-take, length-take-le}
-use lib.Dec.{ltb}
 use lib.Ieee.{Float}
-use borrow.Author.Tests.{lt-ltb, le-ltb}
 use Rattle.refusal.specs.declared.Refusal.{Refusal}
 use Rattle.refusal.specs.declared.Verdict.{Verdict}
 use Rattle.refusal.specs.declared.Verdict.the-variants.{Fine, Refused}
 use Rattle.refusal.specs.Outcome.{Outcome, ok, refused, refuse, refusalOf, then, unless, each}
-use Rattle.refusal.specs.Laws.{stop, go}
 use Rattle.lists.specs.Laws.{pad-set}
 use Rattle.lists.specs.Walks.{all}
 use Rattle.space.specs.declared.Precision.{Precision}
 use Rattle.space.specs.declared.Point3.{Point3}
 use Rattle.space.specs.Vector.{finitePoint}
-use Rattle.space.specs.Shapes.{Face}
 use Rattle.turns.specs.declared.Projected.{Projected}
 use Rattle.turns.specs.declared.Turn.{Turn}
 use Rattle.turns.specs.declared.Turn.the-variants as T
 use Rattle.turns.specs.Turns.{orientationOf}
 use Rattle.outline.specs.declared.Outline.{Outline}
 use Rattle.outline.specs.declared.Outlined.{Outlined}
-use Rattle.outline.specs.Project.{astray, basisOf, projectedOf, pointAt, pointsAt, facetOf, pointsOf, outline, outlined}
+use Rattle.outline.specs.Project.{astray, pointAt, pointsAt, facetOf, pointsOf, outline, outlined}
 use Rattle.outline.specs.Laws.{points-outline, next-point, points-done, length-points}
-use Rattle.simple.specs.Simple.{simpleOf}
 use Rattle.ears.specs.declared.Active.{Active}
 use Rattle.ears.specs.declared.Triangle.{Triangle}
 use Rattle.ears.specs.declared.Block.{Block}
@@ -43,7 +37,7 @@ use Rattle.ears.specs.Ears.{Ready, turnAt, blockedBy, earBy, foundBy, foundAt, 
 use Rattle.ears.specs.Laws.{places-active, length-up, getD-up, length-without, without-before, without-after, turn-is, Within}
 use Rattle.mesh.specs.declared.Triples.{Triples}
 use Rattle.mesh.specs.declared.Meshed.{Meshed}
-use Rattle.mesh.specs.Mesh.{Clipping, clipBy, clipOne, clipFrom, clipAll, firstThree, endBy, endOf, begun, clippedOf, given, trianglesOf, fairFacet, enoughOn, meshOn, meshOf, blank, padded, triples, meshed, pushed, lastBy, lastIn}
+use Rattle.mesh.specs.Mesh.{Clipping, clipBy, clipOne, clipFrom, clipAll, firstThree, endBy, endOf, begun, clippedOf, given, blank, padded, triples, meshed, pushed, lastBy, lastIn}
 
 -- ---- what a scan's answer says
 
@@ -321,6 +315,10 @@ pub each-count : {A C : Type 0} (f : A → Outcome C) (acc : List C) (l : List A
 unfolding each
 each-count f acc [] r e = let k : acc ≡ r = cc in sym (ap length k) ∙ omega arith
 each-count f acc (x ∷ l) r e = count-next f acc l r (f x) (λ y q. each-count f (acc ++ (y ∷ [])) l r q) e
+
+-- the corners of a slice
+pub facet-size : (s : List Float) → length (facetOf s) ≡ length s / 3
+facet-size s = length-points s 0 (length s / 3)
 
 -- ---- one turn of the test of the numbers
 

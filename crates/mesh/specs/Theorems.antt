@@ -11,7 +11,7 @@ use lib.Dec.{ltb}
 use borrow.Author.Tests.{ltb-false}
 use Rattle.refusal.specs.declared.Verdict.{Verdict}
 use Rattle.refusal.specs.declared.Verdict.the-variants.{Fine, Refused}
-use Rattle.refusal.specs.Outcome.{Outcome, ok, refused, refuse, then, unless, each}
+use Rattle.refusal.specs.Outcome.{Outcome, ok, refused, then, unless, each}
 use Rattle.space.specs.declared.Precision.{Precision}
 use Rattle.space.specs.Shapes.{Face}
 use Rattle.turns.specs.declared.Projected.{Projected}
@@ -26,7 +26,7 @@ use Rattle.ears.specs.Places.{upFrom, without, windowAt}
 use Rattle.ears.specs.Ears.{turnAt, scanOf}
 use Rattle.ears.specs.Laws.{length-up, getD-up, length-without, without-before, without-after}
 use Rattle.mesh.specs.Mesh.{Clipping, clipBy, clipOne, clipFrom, clipAll, firstThree, endBy, endOf, begun, clippedOf, given, trianglesOf, fairFacet, enoughOn, meshOn, meshOf}
-use Rattle.mesh.specs.Laws.{Eared, eared, straight-place, low-up, low-without, each-count}
+use Rattle.mesh.specs.Laws.{eared, straight-place, low-up, low-without, each-count}
 
 -- ---- what is said
 

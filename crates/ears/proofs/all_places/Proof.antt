@@ -1,8 +1,7 @@
 use borrow.Author.Needs.{needs}
 use mathlib.Core.Path.{_≡_, ap}
-use Prim.Native.Nat.{ℕ, _-_, _≤_, _<_}
+use Prim.Native.Nat.{_-_, _≤_}
 use native.Mathlib.Omega.{arith}
-use Rattle.ears.specs.declared.Active.{Active}
 use Rattle.ears.specs.Places.{padded, upFrom}
 use Rattle.ears.specs.Laws.{up-stored, up-is}
 use Rattle.ears.proofs.all_places.Statement.{statement}

@@ -1,4 +1,3 @@
-use borrow.Author.Needs.{needs}
 use Rattle.ears.specs.Ears.{blockedWhere}
 use Rattle.ears.proofs.blocked_where.Statement.{statement}
 use Rattle.ears.proofs.blocked_where.Tie as tie

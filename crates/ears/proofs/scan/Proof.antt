@@ -1,14 +1,14 @@
 use borrow.Author.Needs.{needs}
-use mathlib.Core.Path.{_≡_, refl, sym, ap, _∙_}
+use mathlib.Core.Path.{_≡_, refl, sym, _∙_}
 use mathlib.Core.List.{List}
-use Prim.Native.Nat.{ℕ, _+_, _-_, _≤_, _<_}
+use Prim.Native.Nat.{ℕ, _-_, _≤_, _<_}
 use native.Mathlib.Omega.{arith}
 use lib.ListN.{length, drop, getD, length-map}
 use lib.Seq.{getD-take}
 use Rattle.turns.specs.declared.Projected.{Projected}
 use Rattle.outline.specs.Project.{pointsOf}
 use Rattle.ears.specs.declared.Found.the-variants as F
-use Rattle.ears.specs.Places.{placesOf, windowAt}
+use Rattle.ears.specs.Places.{placesOf}
 use Rattle.ears.specs.Ears.{turnAt, blockAt, blockedBy, scanFrom, scanOf}
 use Rattle.ears.specs.Laws.{Within, window-low, turn-is, block-is, block-go, block-stop, block-refused, block-end, scan-start, scan-end, scan-straight, scan-refused, scan-past, scan-ear, scan-blocked, scan-unresolved}
 use Rattle.ears.proofs.scan.Statement.{statement}

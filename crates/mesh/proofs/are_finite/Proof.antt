@@ -1,8 +1,7 @@
 use borrow.Author.Needs.{needs}
 use mathlib.Core.Path.{_≡_, sym, _∙_}
 use mathlib.Core.Bool.{true}
-use Prim.Native.Nat.{ℕ, _*_, _-_, _/_, _≤_}
-use native.Mathlib.Omega.{arith}
+use Prim.Native.Nat.{_*_, _-_, _/_, _≤_}
 use lib.ListN.{length}
 use Rattle.lists.specs.Walks.{all}
 use Rattle.space.specs.Vector.{finitePoint}

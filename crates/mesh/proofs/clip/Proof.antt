@@ -10,7 +10,7 @@ use Rattle.outline.specs.declared.Outline.{Outline}
 use Rattle.outline.specs.Project.{pointsOf}
 use Rattle.ears.specs.declared.Active.{Active}
 use Rattle.ears.specs.declared.Triangle.{Triangle}
-use Rattle.ears.specs.Places.{active, placesOf, upFrom, without}
+use Rattle.ears.specs.Places.{active, upFrom, without}
 use Rattle.ears.specs.Ears.{scanOf}
 use Rattle.ears.specs.Laws.{length-up, length-without}
 use Rattle.mesh.specs.declared.Triples.{Triples}

@@ -1,7 +1,7 @@
 use borrow.Author.Needs.{needs}
 use mathlib.Core.Path.{_≡_, sym, ap, _∙_}
 use mathlib.Core.List.{List, []}
-use Prim.Native.Nat.{ℕ, _/_, _≤_, _<_}
+use Prim.Native.Nat.{_/_, _≤_, _<_}
 use native.Mathlib.Omega.{arith}
 use lib.ListN.{length}
 use lib.Ieee.{Float}
@@ -11,27 +11,23 @@ use Rattle.refusal.specs.Laws.{stop, go}
 use Rattle.space.specs.declared.Plane.{Plane}
 use Rattle.turns.specs.declared.Projected.{Projected}
 use Rattle.outline.specs.Project.{projectedOf, facetOf}
-use Rattle.outline.specs.Laws.{length-points}
 use Rattle.mesh.specs.Mesh.{trianglesOf, enoughOn, meshed}
-use Rattle.mesh.specs.Laws.{unless-yes, unless-no, drawn, drawn-count, undrawn, each-count}
+use Rattle.mesh.specs.Laws.{facet-size, unless-yes, unless-no, drawn, drawn-count, undrawn, each-count}
 use Rattle.mesh.proofs.enough_on.Statement.{statement}
 use Rattle.mesh.proofs.enough_on.Tie as tie
 
 abbrev shadows : Plane → List Float → Outcome (List Projected)
 shadows w s = each (projectedOf w) [] (facetOf s)
 
-size : (s : List Float) → length (facetOf s) ≡ length s / 3
-size s = length-points s 0 (length s / 3)
-
 count : (w : Plane) (s : List Float) (l : List Projected) → shadows w s ≡ Outcome.ok l → length l ≡ length s / 3
-count w s l e = each-count (projectedOf w) [] (facetOf s) l e ∙ omega (arith, size s)
+count w s l e = each-count (projectedOf w) [] (facetOf s) l e ∙ omega (arith, facet-size s)
 
 returns : tie.Need-returns
 unfolding enoughOn
 returns c =
     let T = c .before .before in
     let s = T .before .before .args .s .now in
-    let h : length (facetOf s) < 3 = omega (arith, size s, T .if1 .taken) in
+    let h : length (facetOf s) < 3 = omega (arith, facet-size s, T .if1 .taken) in
     unless-yes _ _ _ _ _ (lt-ltb _ _ h) (c .before .refuse .ensures) (c .refused .ensures)
 
 triangles-requires : tie.Need-triangles-requires
@@ -48,7 +44,7 @@ returns-2 c =
     let P = c .before .before .before .before in
     let S = P .before .before .before in
     let s = S .args .s .now in
-    let h : 3 ≤ length (facetOf s) = omega (arith, size s, P .before .if1 .left) in
+    let h : 3 ≤ length (facetOf s) = omega (arith, facet-size s, P .before .if1 .left) in
     let d = drawn (shadows (S .args .plane) s) (P .outline-of .result) (P .outline-of .ensures) (c .before .enum-told .given .1) in
     unless-no _ _ _ _ (le-ltb _ _ h) (c .triangles .ensures ∙ ap meshed (sym (go (shadows (S .args .plane) s) (trianglesOf (S .args .p)) _ d)))
 
@@ -58,7 +54,7 @@ returns-3 c =
     let P = c .before .before .before .before .before in
     let S = P .before .before .before in
     let s = S .args .s .now in
-    let h : 3 ≤ length (facetOf s) = omega (arith, size s, P .before .if1 .left) in
+    let h : 3 ≤ length (facetOf s) = omega (arith, facet-size s, P .before .if1 .left) in
     let d = undrawn (shadows (S .args .plane) s) (P .outline-of .result) _ (P .outline-of .ensures) (c .before .before .v .given .1) in
     unless-no _ _ _ _ (le-ltb _ _ h) (c .refused2 .ensures ∙ ap meshed (sym (stop (shadows (S .args .plane) s) (trianglesOf (S .args .p)) _ d)))
 

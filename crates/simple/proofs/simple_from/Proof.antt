@@ -1,7 +1,6 @@
 use borrow.Author.Needs.{needs}
-use mathlib.Core.Path.{_≡_, refl, sym, ap, _∙_}
-use Prim.Native.Nat.{ℕ, _+_, _-_, _≤_, _<_}
-use Rattle.refusal.specs.declared.Verdict.{Verdict}
+use mathlib.Core.Path.{_≡_, refl, sym, _∙_}
+use Prim.Native.Nat.{_+_, _-_, _≤_}
 use Rattle.outline.specs.Project.{pointsOf}
 use Rattle.simple.specs.Simple.{eachOf, pairAt, simpleFrom}
 use Rattle.simple.specs.Laws.{each-go, each-stop, each-end, pair-at}
