@@ -1,4 +1,5 @@
 // The part of a convex cell below a plane.
+use cell::Kept;
 use edge::Seen;
 use refusal::Refusal;
 use refusal::Verdict;
@@ -10,8 +11,8 @@ ghost use lib.ListN.{length};
 ghost use Rattle.edge.specs.Meets.{seen};
 ghost use Rattle.room.specs.Rooms.{faceAt, cellAt, countsAt};
 ghost use Rattle.cell.specs.Cells.{Stored};
-ghost use Rattle.clip.specs.Cuts.{signsOf, cutFace, closed, cutCell, clip};
-ghost use Rattle.clip.specs.Clips.{Held, Space, Few, Cutter, Given, Hulls, Clips};
+ghost use Rattle.clip.specs.Cuts.{signsOf, cutFace, closed, cutFaces, cutCell, clipBy, clip};
+ghost use Rattle.clip.specs.Clips.{Space, Few, Cutter, Closer, Gone, Given, Hulls, answered, Clips};
 
 // A cut under way: how many faces and corners the cell has, and how many points the cap.
 pub struct Going {
@@ -96,7 +97,7 @@ fn cut_face(
     let made = polygon::unique(p, t);
     let mv = made.verdict;
     let q = made.polygon;
-    let old = cell::Kept {
+    let old = Kept {
         verdict: mv,
         faces,
         corners,
@@ -108,5 +109,92 @@ fn cut_face(
         faces: r.faces,
         corners: r.corners,
         caps: more,
+    }
+}
+
+// All faces of the cell.
+fn cut_faces(
+    t: Precision,
+    limit: usize,
+    plane: Plane,
+    src: &[f64],
+    from: usize,
+    sizes: &[u64],
+    j: usize,
+    faces: usize,
+    face: &mut [f64],
+    cap: &mut [f64],
+    dst: &mut [f64],
+    at: usize,
+    counts: &mut [u64],
+    k: usize,
+) -> Going
+    requires { ⌜ Given (now src) from (now sizes) j faces × Space limit (now face) (now cap) (now dst) at (now counts) k ⌝ }
+    ensures { λ r. ⌜ Gone limit (now (dst .entry)) at (now (counts .entry)) k (cutFaces t limit plane (cellAt (now (src .entry)) from (countsAt (now (sizes .entry)) j faces))) r (now (cap .exit)) (now (dst .exit)) (now (counts .exit)) ⌝ }
+{
+    let mut s = Going {
+        verdict: Verdict::Fine,
+        faces: 0,
+        corners: 0,
+        caps: 0,
+    };
+    let mut o = from;
+    let mut i = 0;
+    while i < faces {
+        let n = sizes[j + i] as usize;
+        s = cut_face(t, limit, plane, src, o, n, face, cap, dst, at, counts, k, s);
+        o = o + 12 + 3 * n;
+        i += 1;
+    }
+    s
+}
+
+// The cap closes the cell.
+fn close(
+    t: Precision,
+    limit: usize,
+    plane: Plane,
+    s: Going,
+    cap: &mut [f64],
+    flat: &mut [f64],
+    order: &mut [u64],
+    chain: &mut [u64],
+    dst: &mut [f64],
+    at: usize,
+    counts: &mut [u64],
+    k: usize,
+) -> Kept
+    requires { ⌜ (3072 ≤ length (now cap)) × Hulls (now flat) (now order) (now chain) × (at + 1536 + 3 * limit ≤ length (now dst)) × (k + 128 ≤ length (now counts)) × Few limit s ⌝ }
+    ensures { λ r. ⌜ Closer at k (closed t limit plane) s r (now (cap .entry)) (now (dst .entry)) (now (counts .entry)) (now (dst .exit)) (now (counts .exit)) ⌝ }
+{
+    let v = s.verdict;
+    let faces = s.faces;
+    let corners = s.corners;
+    let caps = s.caps;
+    let Verdict::Fine = v else {
+        return Kept {
+            verdict: v,
+            faces,
+            corners,
+        };
+    };
+    let made = hull::hull(cap, caps, plane, t, flat, order, chain);
+    let mv = made.verdict;
+    let q = made.polygon;
+    let old = Kept {
+        verdict: mv,
+        faces,
+        corners,
+    };
+    cell::add_face(limit, dst, at, counts, k, old, plane, q)
+}
+
+fn answer(r: Kept) -> Clipped
+    ensures { λ a. ⌜ a ≡ answered (r .verdict) (r .faces) (r .corners) ⌝ }
+{
+    let v = r.verdict;
+    match v {
+        Verdict::Fine => Clipped::Part(r.faces, r.corners),
+        Verdict::Refused(e) => Clipped::Refused(e),
     }
 }
