@@ -19,12 +19,12 @@ use Rattle.job.specs.Runs.{stands-within, run-in, faces-in}
 use Rattle.job.specs.Parts.{passed, the-answer}
 use Rattle.job.specs.Sound.{float-within}
 
-length-bodies : (n c : ℕ) (s : List ℕ) → length (bodies n c s) ≡ c
+pub length-bodies : (n c : ℕ) (s : List ℕ) → length (bodies n c s) ≡ c
 unfolding bodies
 length-bodies n zero s = refl
 length-bodies n (suc c) s = ap suc (length-bodies n c (drop (suc n) s))
 
-body-point : (s : List ℕ) → pointOf (take 24 (drop 1 s)) ≡ pointFrom s
+pub body-point : (s : List ℕ) → pointOf (take 24 (drop 1 s)) ≡ pointFrom s
 unfolding pointOf pointFrom
 body-point s =
     rw (float-within s 1 24 0 1 (omega arith) refl, float-within s 1 24 8 9 (omega arith) refl, float-within s 1 24 16 17 (omega arith) refl) refl
