@@ -8,9 +8,9 @@ use space::Precision;
 ghost use mathlib.Core.Path.{_≡_};
 ghost use Prim.Native.Nat.{_+_, _<_};
 ghost use Rattle.refusal.specs.Outcome.{then};
-ghost use lib.ListN.{length, drop, getD};
+ghost use lib.ListN.{drop};
 ghost use Rattle.job.specs.Records.{standing, runOf, facesOf, spanned, spanEnd, spanOf};
-ghost use Rattle.job.specs.Read.{operated, laid, headed, precisionAt, operationOf, closing, operationAt, layoutAs, layoutWith, layoutOn, layoutAfter, layoutOf, cellLaid, cellEnd, cellLayout, facetLaid, spotAt, planeAt, facetEnd, facetHeaded, facetLayout, pointFrom, pointAt};
+ghost use Rattle.job.specs.Read.{operated, laid, headed, precisionAt, operationOf, operationAt, layoutAs, layoutWith, layoutOn, layoutAfter, layoutOf, cellLaid, cellEnd, cellLayout, facetLaid, spotAt, planeAt, facetEnd, facetHeaded, facetLayout, pointFrom, pointAt};
 
 pub enum Operation {
     Intersection,

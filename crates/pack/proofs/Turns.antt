@@ -1,7 +1,7 @@
 -- What the loops of this crate keep, and their turns.
 use mathlib.Core.Path.{_≡_, refl, sym, ap, _∙_}
 use mathlib.Core.Bool.{Bool, true, false}
-use mathlib.Core.List.{List, [], _∷_, _++_, map}
+use mathlib.Core.List.{List, _++_, map}
 use Prim.Native.Nat.{ℕ, suc, _+_, _*_, _-_, _≤_, _<_}
 use native.Mathlib.Omega.{arith}
 use lib.ListN.{length, drop, set, length-set}
@@ -9,10 +9,9 @@ use lib.Seq.{sets, length-sets}
 use lib.Ieee.{Float}
 use Rattle.space.specs.declared.Point3.{Point3}
 use Rattle.words.specs.Little.{indexAt}
-use Rattle.job.specs.declared.Faces.{Faces}
 use Rattle.job.specs.Records.{standing, runOf, facesAfter, total, facesOf}
 use Rattle.job.specs.Read.{pointAt}
-use Rattle.job.specs.Runs.{faces-more, faces-in}
+use Rattle.job.specs.Runs.{faces-more}
 use Rattle.pack.specs.Flat.{coordinates, flat, joined, pointsFrom, cornersFrom, facesFrom}
 use Rattle.pack.specs.Laws.{sets-more, coordinates-more, points-more, points-none, corners-more, corners-none, corners-count, face-more, face-none}
 

@@ -8,6 +8,7 @@ ghost use mathlib.Core.List.{map};
 ghost use Prim.Native.Nat.{_+_, _*_, _≤_, _<_};
 ghost use lib.ListN.{length, drop, set};
 ghost use lib.Seq.{sets};
+ghost use Rattle.job.specs.Bytes.{operationByte};
 ghost use Rattle.job.specs.Records.{facesOf};
 ghost use Rattle.pack.specs.Flat.{coordinates, flat, joined, pointsFrom, cornersFrom, facesFrom, precisionRecord, pointRecord, cornerRecord, operationRecord};
 
@@ -61,4 +62,65 @@ pub fn unpack_faces(job: &[u8], middle: usize, counts: &mut [u64], indices: &mut
         f += 1;
         k += n;
     }
+}
+
+// ---- records written; each takes the place where it begins
+
+pub fn put_precision(out: &mut [u8], at: usize, p: Precision)
+    requires { ⌜ at + 17 ≤ length (now out) ⌝ }
+    ensures { λ _. ⌜ now (out .exit) ≡ sets (now (out .entry)) at (precisionRecord p) ⌝ }
+{
+    out[at] = 1;
+    words::put_float(out, at + 1, p.linear);
+    words::put_float(out, at + 9, p.local);
+}
+
+pub fn put_point(out: &mut [u8], at: usize, p: Point3)
+    requires { ⌜ at + 25 ≤ length (now out) ⌝ }
+    ensures { λ _. ⌜ now (out .exit) ≡ sets (now (out .entry)) at (pointRecord p) ⌝ }
+{
+    out[at] = 2;
+    words::put_float(out, at + 1, p.x);
+    words::put_float(out, at + 9, p.y);
+    words::put_float(out, at + 17, p.z);
+}
+
+pub fn put_face(out: &mut [u8], at: usize)
+    requires { ⌜ at < length (now out) ⌝ }
+    ensures { λ _. ⌜ now (out .exit) ≡ set (now (out .entry)) at 3 ⌝ }
+{
+    out[at] = 3;
+}
+
+pub fn put_corner(out: &mut [u8], at: usize, i: u64)
+    requires { ⌜ at + 3 ≤ length (now out) ⌝ }
+    ensures { λ _. ⌜ now (out .exit) ≡ sets (now (out .entry)) at (cornerRecord i) ⌝ }
+{
+    out[at] = 4;
+    words::put_index(out, at + 1, i);
+}
+
+pub fn put_end(out: &mut [u8], at: usize)
+    requires { ⌜ at < length (now out) ⌝ }
+    ensures { λ _. ⌜ now (out .exit) ≡ set (now (out .entry)) at 5 ⌝ }
+{
+    out[at] = 5;
+}
+
+fn operation_byte(o: Operation) -> u8
+    ensures { λ r. ⌜ r ≡ operationByte o ⌝ }
+{
+    match o {
+        Operation::Intersection => 1,
+        Operation::Difference => 2,
+        Operation::Union => 3,
+    }
+}
+
+pub fn put_operation(out: &mut [u8], at: usize, o: Operation)
+    requires { ⌜ at + 2 ≤ length (now out) ⌝ }
+    ensures { λ _. ⌜ now (out .exit) ≡ sets (now (out .entry)) at (operationRecord o) ⌝ }
+{
+    out[at] = 6;
+    out[at + 1] = operation_byte(o);
 }
