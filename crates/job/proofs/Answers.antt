@@ -9,7 +9,7 @@ use lib.Seq.{take-all}
 use lib.Dec.{eqb}
 use borrow.Author.Tests.{ne-eqb, eq-eqb}
 use Rattle.refusal.specs.declared.Refusal.{Refusal}
-use Rattle.refusal.specs.Outcome.{Outcome, ok, refused, refuse, refusalOf, unless, then}
+use Rattle.refusal.specs.Outcome.{Outcome, ok, refused, refusalOf, unless, then}
 use Rattle.space.specs.declared.Precision.{Precision}
 use Rattle.space.specs.declared.Plane.{Plane}
 use Rattle.job.specs.declared.Faces.{Faces}

@@ -2,10 +2,9 @@
 use mathlib.Core.Path.{_≡_, refl, sym, ap, _∙_}
 use mathlib.Core.Bool.{Bool, true, false}
 use mathlib.Core.List.{List, [], _∷_}
-use Prim.Native.Nat.{ℕ, suc, _+_, _*_, _≤_, _<_}
+use Prim.Native.Nat.{ℕ, _+_, _*_, _≤_}
 use native.Mathlib.Omega.{arith}
 use lib.ListN.{length, drop}
-use Rattle.job.specs.declared.Faces.{Faces}
 use Rattle.job.specs.Records.{standing, runOf, facesAfter, total, facesOf}
 use Rattle.job.specs.Runs.{run-more, run-none, faces-more, faces-none}
 

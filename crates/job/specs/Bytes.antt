@@ -6,7 +6,6 @@ use mathlib.Core.List.{List, [], _∷_, _++_, map}
 use lib.ListN.{length}
 use Rattle.space.specs.declared.Point3.{Point3}
 use Rattle.space.specs.declared.Precision.{Precision}
-use Rattle.space.specs.declared.Frame.{Frame}
 use Rattle.space.specs.declared.Plane.{Plane}
 use Rattle.space.specs.Shapes.{Solid}
 use Rattle.words.specs.Little.{little, floatAt}

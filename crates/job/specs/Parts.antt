@@ -1,16 +1,15 @@
 -- A run of records and a solid are sound and complete: what is read is what the bytes are, and bytes that are it are read.
 use mathlib.Core.Path.{_≡_, refl, sym, ap, subst, _∙_}
-use mathlib.Core.Bool.{Bool, true, false, not, _&&_}
+use mathlib.Core.Bool.{Bool, true, false, not}
 use mathlib.Core.List.{List, [], _∷_, _++_, map}
-use Prim.Native.Nat.{ℕ, zero, suc, _+_, _*_, _≤_, _<_}
+use Prim.Native.Nat.{ℕ, zero, suc, _+_, _*_}
 use native.Mathlib.Omega.{arith}
 use native.Mathlib.Nat.{suc-mul, zero-mul}
-use lib.ListN.{length, take, drop, getD, length-drop, length-append, length-map}
+use lib.ListN.{length, take, drop, length-append, length-map}
 use lib.Seq.{drop-drop, drop-at, take-at}
 use lib.Dec.{eqb, leb}
 use borrow.Author.Tests.{le-leb, eq-eqb}
-use Rattle.refusal.specs.Outcome.{Outcome, ok, refused, unless}
-use Rattle.job.specs.declared.Faces.{Faces}
+use Rattle.refusal.specs.Outcome.{ok, unless}
 use Rattle.job.specs.declared.Span.{Span}
 use Rattle.job.specs.Records.{standing, oneMore, runOf, oneFace, facesAfter, total, facesOf, spanEnd, spanFaces, spanPoints, spanOf, bodies, faceBodies}
 use Rattle.job.specs.Bytes.{SolidBodies, recordsTo, facesTo, solidTo, Sized, none, more, AllSized, SolidSized}

@@ -1,30 +1,27 @@
 -- The points of a solid and of a facet, one at a time, and where a solid's parts stand.
-use mathlib.Core.Path.{_≡_, refl, sym, ap, subst, _∙_}
-use mathlib.Core.Bool.{Bool, true, false, not}
-use mathlib.Core.List.{List, [], _∷_, map}
-use Prim.Native.Nat.{ℕ, zero, suc, _+_, _*_, _-_, _≤_, _<_}
+use mathlib.Core.Path.{_≡_, refl, ap, subst, _∙_}
+use mathlib.Core.List.{List, _∷_, map}
+use Prim.Native.Nat.{ℕ, zero, suc, _+_, _*_, _≤_, _<_}
 use native.Mathlib.Omega.{arith}
 use native.Mathlib.Nat.{not-suc-le-zero, le-of-suc-le-suc}
-use lib.ListN.{length, take, drop, getD, length-drop, length-map}
+use lib.ListN.{length, take, drop, getD, length-map}
 use lib.Seq.{drop-drop, drop-cons}
-use Rattle.refusal.specs.Outcome.{Outcome, ok, unless}
+use Rattle.refusal.specs.Outcome.{ok}
 use Rattle.space.specs.declared.Point3.{Point3}
-use Rattle.words.specs.Little.{floatAt, wordAt}
-use Rattle.job.specs.declared.Faces.{Faces}
 use Rattle.job.specs.declared.Span.{Span}
-use Rattle.job.specs.Records.{standing, runOf, facesAfter, total, facesOf, spanEnd, spanFaces, spanPoints, spanOf, bodies, faceBodies}
+use Rattle.job.specs.Records.{standing, runOf, facesOf, spanEnd, spanFaces, spanPoints, spanOf, bodies, faceBodies}
 use Rattle.job.specs.Bytes.{pointOf, solidOf}
 use Rattle.job.specs.Read.{pointFrom, pointAt, bodiesAt, solidAt}
-use Rattle.job.specs.Runs.{stands-within, run-in, faces-in}
+use Rattle.job.specs.Runs.{stands-within}
 use Rattle.job.specs.Parts.{passed, the-answer}
 use Rattle.job.specs.Sound.{float-within}
 
-length-bodies : (n c : ℕ) (s : List ℕ) → length (bodies n c s) ≡ c
+pub length-bodies : (n c : ℕ) (s : List ℕ) → length (bodies n c s) ≡ c
 unfolding bodies
 length-bodies n zero s = refl
 length-bodies n (suc c) s = ap suc (length-bodies n c (drop (suc n) s))
 
-body-point : (s : List ℕ) → pointOf (take 24 (drop 1 s)) ≡ pointFrom s
+pub body-point : (s : List ℕ) → pointOf (take 24 (drop 1 s)) ≡ pointFrom s
 unfolding pointOf pointFrom
 body-point s =
     rw (float-within s 1 24 0 1 (omega arith) refl, float-within s 1 24 8 9 (omega arith) refl, float-within s 1 24 16 17 (omega arith) refl) refl

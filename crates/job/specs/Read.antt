@@ -1,13 +1,12 @@
 -- Where the parts of a job stand, and the job that is read so. Definitions only.
 use Prim.Native.Nat.{ℕ, _+_, _*_}
-use mathlib.Core.Bool.{Bool, true, false, not, cond, _&&_}
-use mathlib.Core.List.{List, [], _∷_, map}
-use lib.ListN.{length, take, drop, getD}
+use mathlib.Core.Bool.{Bool, not, cond, _&&_}
+use mathlib.Core.List.{List, map}
+use lib.ListN.{length, drop, getD}
 use lib.Dec.{eqb, leb}
 use Rattle.refusal.specs.Outcome.{Outcome, ok, refused, refuse, then, unless}
 use Rattle.space.specs.declared.Point3.{Point3}
 use Rattle.space.specs.declared.Precision.{Precision}
-use Rattle.space.specs.declared.Frame.{Frame}
 use Rattle.space.specs.declared.Plane.{Plane}
 use Rattle.space.specs.Shapes.{Solid}
 use Rattle.words.specs.Little.{floatAt}

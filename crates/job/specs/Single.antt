@@ -1,21 +1,21 @@
 -- One solid alone, and one facet: sound and complete, by the parts of a job.
 use mathlib.Core.Path.{_≡_, refl, sym, ap, subst, _∙_}
-use mathlib.Core.Bool.{Bool, true, false, not, _&&_}
-use mathlib.Core.List.{List, [], _∷_, _++_, map}
-use Prim.Native.Nat.{ℕ, zero, suc, _+_, _*_, _≤_}
+use mathlib.Core.Bool.{true}
+use mathlib.Core.List.{List, [], _∷_, _++_}
+use Prim.Native.Nat.{ℕ, _+_, _*_, _≤_}
 use native.Mathlib.Omega.{arith}
 use lib.ListN.{length, take, drop, length-drop, length-append, drop-of-length-le}
 use lib.Seq.{drop-drop, drop-at, take-at}
 use lib.Dec.{eqb}
 use borrow.Author.Tests.{eq-eqb, eqb-true}
-use Rattle.refusal.specs.Outcome.{Outcome, ok, then, unless}
+use Rattle.refusal.specs.Outcome.{ok, then}
 use Rattle.job.specs.declared.Span.{Span}
 use Rattle.job.specs.declared.CellLayout.{CellLayout}
 use Rattle.job.specs.declared.FacetLayout.{FacetLayout}
 use Rattle.job.specs.Records.{standing, runOf, runAfter, spanOf, bodies}
-use Rattle.job.specs.Bytes.{recordsTo, solidTo, Sized, precisionOf, pointOf, solidOf, spotOf, planeOf, Single, IsCell, Facet, IsFacet}
+use Rattle.job.specs.Bytes.{recordsTo, solidTo, precisionOf, spotOf, planeOf, Single, IsCell, Facet, IsFacet}
 use Rattle.job.specs.Read.{headed, precisionAt, bodiesAt, solidAt, spotAt, planeAt, cellEnd, cellLayout, cellAt, readCell, facetEnd, facetHeaded, facetLayout, facetAt, readFacet}
-use Rattle.job.specs.Runs.{and-left, and-right, stands-parts, stands-body, run-none}
+use Rattle.job.specs.Runs.{and-left, and-right, stands-parts, stands-body}
 use Rattle.job.specs.Parts.{stands-made, records-sound, sized-sound, length-records, records-counted, records-kept, solid-sound, placesOf, solid-complete, solid-rest, solid-kept}
 use Rattle.job.specs.Points.{span-placed}
 use Rattle.job.specs.Sound.{went, let-through, beyond, same-ok, float-within, precision-same, head-stands, head-short, head-made, head-rest, head-body}

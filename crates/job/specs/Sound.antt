@@ -1,10 +1,9 @@
 -- The reader's definition is sound and complete: `readJob l` is `ok j` exactly when the bytes are a job that means j, and else 1.
 use mathlib.Core.Path.{_≡_, refl, sym, ap, subst, _∙_}
-use mathlib.Core.Bool.{Bool, true, false, not, cond, _&&_}
+use mathlib.Core.Bool.{Bool, true, false, not, cond}
 use mathlib.Core.List.{List, [], _∷_, _++_}
 use Prim.Native.Nat.{ℕ, zero, suc, _+_, _*_, _≤_}
 use native.Mathlib.Omega.{arith}
-use native.Mathlib.Nat.{not-suc-le-zero, le-of-suc-le-suc}
 use lib.ListN.{length, take, drop, getD, length-drop}
 use lib.Seq.{take-take, drop-drop, drop-at, take-at, getD-drop}
 use lib.Dec.{eqb, leb}
@@ -20,9 +19,9 @@ use Rattle.job.specs.declared.Span.{Span}
 use Rattle.job.specs.declared.Layout.{Layout}
 use Rattle.job.specs.Records.{standing, runOf, facesOf, spanEnd, spanFaces, spanPoints, spanOf}
 use Rattle.job.specs.Read.{headed, precisionAt, operationOf, closing, operationAt, layoutAs, layoutWith, layoutOn, layoutAfter, layoutOf, bodiesAt, solidAt, jobAt, readJob}
-use Rattle.job.specs.Bytes.{SolidBodies, JobBodies, solidTo, operationByte, jobBytes, JobSized, precisionOf, solidOf, Job, jobOf, IsJob}
+use Rattle.job.specs.Bytes.{JobBodies, solidTo, operationByte, jobBytes, JobSized, precisionOf, Job, jobOf, IsJob}
 use Rattle.job.specs.Runs.{and-left, and-right, stands-parts, stands-body}
-use Rattle.job.specs.Parts.{stands-made, SolidAt, solid-sound, placesOf, solid-complete, solid-rest, solid-kept}
+use Rattle.job.specs.Parts.{stands-made, solid-sound, placesOf, solid-complete, solid-rest, solid-kept}
 
 -- ---- an outcome taken apart
 

@@ -13,7 +13,7 @@ use Rattle.space.specs.declared.Precision.{Precision}
 use Rattle.space.specs.Shapes.{Solid}
 use Rattle.words.specs.Little.{little, digits, wordAt, floatAt, floatBytes}
 use Rattle.words.specs.Laws.{length-digits, little-digits, length-float, float-back}
-use Rattle.job.specs.Bytes.{SolidBodies, JobBodies, jobBytes, Sized, none, more, AllSized, SolidSized, JobSized, precisionOf, pointOf, solidOf, Job, jobOf, IsJob}
+use Rattle.job.specs.Bytes.{SolidBodies, JobBodies, jobBytes, Sized, none, more, AllSized, SolidSized, JobSized, precisionOf, pointOf, solidOf, Job, jobOf}
 use Rattle.job.specs.Read.{readJob}
 use Rattle.job.specs.Sound.{complete}
 

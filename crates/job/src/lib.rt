@@ -8,9 +8,9 @@ use space::Precision;
 ghost use mathlib.Core.Path.{_≡_};
 ghost use Prim.Native.Nat.{_+_, _<_};
 ghost use Rattle.refusal.specs.Outcome.{then};
-ghost use lib.ListN.{length, drop, getD};
+ghost use lib.ListN.{drop};
 ghost use Rattle.job.specs.Records.{standing, runOf, facesOf, spanned, spanEnd, spanOf};
-ghost use Rattle.job.specs.Read.{operated, laid, headed, precisionAt, operationOf, closing, operationAt, layoutAs, layoutWith, layoutOn, layoutAfter, layoutOf, cellLaid, cellEnd, cellLayout, facetLaid, spotAt, planeAt, facetEnd, facetHeaded, facetLayout, pointFrom, pointAt};
+ghost use Rattle.job.specs.Read.{operated, laid, headed, precisionAt, operationOf, operationAt, layoutAs, layoutWith, layoutOn, layoutAfter, layoutOf, cellLaid, cellEnd, cellLayout, facetLaid, spotAt, planeAt, facetEnd, facetHeaded, facetLayout, pointFrom, pointAt};
 
 pub enum Operation {
     Intersection,
@@ -81,7 +81,7 @@ pub enum FacetLaid {
 }
 
 // Whether a whole record of a kind stands at a place.
-fn stands(job: &[u8], at: usize, kind: u8, body: usize) -> bool
+pub fn stands(job: &[u8], at: usize, kind: u8, body: usize) -> bool
     ensures { λ r. ⌜ r ≡ standing kind body (drop at (now (job .entry))) ⌝ }
 {
     if job.len() <= at {
@@ -94,7 +94,7 @@ fn stands(job: &[u8], at: usize, kind: u8, body: usize) -> bool
 }
 
 // How many records of a kind stand one after the other.
-fn run(job: &[u8], start: usize, kind: u8, body: usize) -> usize
+pub fn run(job: &[u8], start: usize, kind: u8, body: usize) -> usize
     ensures { λ r. ⌜ r ≡ runOf kind body (drop start (now (job .entry))) ⌝ }
 {
     let mut at = start;

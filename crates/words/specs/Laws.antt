@@ -1,6 +1,6 @@
 -- Bytes and numbers: each gives back the other.
 use mathlib.Core.Path.{_≡_, refl, sym, ap, _∙_}
-use mathlib.Core.List.{List, [], _∷_, _++_}
+use mathlib.Core.List.{List, [], _∷_}
 use Prim.Native.Nat.{ℕ, zero, suc, _+_, _*_, _/_, _%_, _^_, _≤_, _<_, _-_}
 use native.Mathlib.Omega.{arith}
 use native.Mathlib.Numerals.{add-one}
@@ -9,7 +9,7 @@ use lib.Seq.{getD-drop, drop-drop, sets}
 use lib.Ieee.{Float, binary64, fits, toBits, ofBits}
 use lib.Ieee.Bits.{ofBits-toBits, toBits-lt}
 use lib.Dec.{T}
-use Rattle.words.specs.Little.{little, digits, indexAt, wordAt, floatAt, floatBytes}
+use Rattle.words.specs.Little.{little, digits, indexAt, wordAt, floatBytes}
 
 pub length-digits : (n x : ℕ) → length (digits n x) ≡ n
 unfolding digits

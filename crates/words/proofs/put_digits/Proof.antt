@@ -1,7 +1,5 @@
 use borrow.Author.Needs.{needs}
 use Prim.Native.Nat.{_-_}
-use native.Mathlib.Omega.{arith}
-use native.Mathlib.Nat.{mod-lt}
 use Rattle.words.proofs.Turns.{Putting, start, step, end}
 use Rattle.words.proofs.put_digits.Statement.{statement}
 use Rattle.words.proofs.put_digits.Tie as tie
