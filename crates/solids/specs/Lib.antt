@@ -1,0 +1,4 @@
+pub mod Apart
+pub mod Sides
+pub mod Answers
+pub mod Laws

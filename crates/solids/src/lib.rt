@@ -1,0 +1,149 @@
+// The check of a solid's points and planes.
+use refusal::Refusal;
+use refusal::Verdict;
+use side::Side;
+use space::Closeness;
+use space::Plane;
+use space::Point3;
+use space::Precision;
+ghost use mathlib.Core.Path.{_≡_};
+ghost use mathlib.Core.Bool.{true, false};
+ghost use Prim.Native.Nat.{_+_, _*_, _≤_, _<_};
+ghost use lib.ListN.{length, drop};
+ghost use Rattle.refusal.specs.Outcome.{ok, unless};
+ghost use Rattle.polygon.specs.Memory.{pointAt, pointsAt};
+ghost use Rattle.room.specs.Rooms.{countsAt};
+ghost use Rattle.solids.specs.Apart.{notNear, apartFrom, apartAll};
+ghost use Rattle.solids.specs.Sides.{has, judgeSide, someBelow, faceSides};
+ghost use Rattle.solids.specs.Answers.{below};
+
+fn not_near(c: Closeness) -> Verdict
+    ensures { λ r. ⌜ r ≡ notNear c ⌝ }
+{
+    match c {
+        Closeness::Near => Verdict::Refused(refusal::refuse(4)),
+        Closeness::Apart => Verdict::Fine,
+        Closeness::Refused(r) => Verdict::Refused(r),
+    }
+}
+
+// The point at place i against each later one of n.
+fn apart_from(t: Precision, points: &[f64], n: usize, i: usize) -> Verdict
+    requires { ⌜ (i < n) × (3 * n ≤ length (now points)) ⌝ }
+    ensures { λ r. ⌜ r ≡ apartFrom t (pointAt (now (points .entry)) (3 * i)) (drop (i + 1) (pointsAt (now (points .entry)) 0 n)) ⌝ }
+{
+    let q = polygon::get_point(points, 3 * i);
+    let mut j = i + 1;
+    while j < n {
+        let p = polygon::get_point(points, 3 * j);
+        let v = not_near(space::near(t, q, p));
+        match v {
+            Verdict::Fine => {}
+            Verdict::Refused(r) => {
+                return Verdict::Refused(r);
+            }
+        }
+        j += 1;
+    }
+    Verdict::Fine
+}
+
+// No two of n points are near.
+pub fn all_apart(t: Precision, points: &[f64], n: usize) -> Verdict
+    requires { ⌜ 3 * n ≤ length (now points) ⌝ }
+    ensures { λ r. ⌜ r ≡ apartAll t (pointsAt (now (points .entry)) 0 n) ⌝ }
+{
+    let mut i = 0;
+    while i < n {
+        let v = apart_from(t, points, n, i);
+        match v {
+            Verdict::Fine => {}
+            Verdict::Refused(r) => {
+                return Verdict::Refused(r);
+            }
+        }
+        i += 1;
+    }
+    Verdict::Fine
+}
+
+// The place x is one of the n from a place on.
+fn is_corner(places: &[u64], at: usize, n: usize, x: usize) -> bool
+    requires { ⌜ at + n ≤ length (now places) ⌝ }
+    ensures { λ r. ⌜ r ≡ has x false (countsAt (now (places .entry)) at n) ⌝ }
+{
+    let mut found = false;
+    let mut i = 0;
+    while i < n {
+        found = found | (x as u64 == places[at + i]);
+        i += 1;
+    }
+    found
+}
+
+// Whether a point was Negative so far, or why the face is refused.
+pub enum Below {
+    Told(bool),
+    Refused(Refusal),
+}
+
+fn below_unless(own: bool) -> Below
+    ensures { λ r. ⌜ below r ≡ unless own 4 (ok true) ⌝ }
+{
+    if own {
+        return Below::Refused(refusal::refuse(4));
+    }
+    Below::Told(true)
+}
+
+fn judge_side(s: Side, own: bool, b: bool) -> Below
+    ensures { λ r. ⌜ below r ≡ judgeSide s own b ⌝ }
+{
+    match s {
+        Side::Positive => Below::Refused(refusal::refuse(4)),
+        Side::Negative => below_unless(own),
+        Side::Zero => Below::Told(b),
+        Side::Refused(r) => Below::Refused(r),
+    }
+}
+
+fn some_below(b: bool) -> Verdict
+    ensures { λ r. ⌜ r ≡ someBelow (ok b) ⌝ }
+{
+    if b {
+        return Verdict::Fine;
+    }
+    Verdict::Refused(refusal::refuse(4))
+}
+
+// The m points against the face of plane w, whose n corners have the places from a place on.
+pub fn face_sides(
+    t: Precision,
+    w: Plane,
+    places: &[u64],
+    at: usize,
+    n: usize,
+    points: &[f64],
+    m: usize,
+) -> Verdict
+    requires { ⌜ (at + n ≤ length (now places)) × (3 * m ≤ length (now points)) ⌝ }
+    ensures { λ r. ⌜ r ≡ faceSides t w (countsAt (now (places .entry)) at n) (pointsAt (now (points .entry)) 0 m) ⌝ }
+{
+    let mut b = false;
+    let mut x = 0;
+    while x < m {
+        let q = polygon::get_point(points, 3 * x);
+        let own = is_corner(places, at, n, x);
+        let judged = judge_side(side::side_of(w, q, t), own, b);
+        match judged {
+            Below::Told(told) => {
+                b = told;
+            }
+            Below::Refused(r) => {
+                return Verdict::Refused(r);
+            }
+        }
+        x += 1;
+    }
+    some_below(b)
+}
