@@ -1,4 +1,6 @@
 pub mod Apart
 pub mod Sides
+pub mod Frames
 pub mod Answers
 pub mod Laws
+pub mod Faces

@@ -4,17 +4,20 @@ use refusal::Verdict;
 use side::Side;
 use space::Closeness;
 use space::Plane;
+use space::Planed;
 use space::Point3;
 use space::Precision;
 ghost use mathlib.Core.Path.{_≡_};
 ghost use mathlib.Core.Bool.{true, false};
 ghost use Prim.Native.Nat.{_+_, _*_, _≤_, _<_};
 ghost use lib.ListN.{length, drop};
-ghost use Rattle.refusal.specs.Outcome.{ok, unless};
+ghost use Rattle.refusal.specs.Outcome.{ok, unless, verdictOf};
+ghost use Rattle.space.specs.Frames.{planed};
 ghost use Rattle.polygon.specs.Memory.{pointAt, pointsAt};
 ghost use Rattle.room.specs.Rooms.{countsAt};
 ghost use Rattle.solids.specs.Apart.{notNear, apartFrom, apartAll};
 ghost use Rattle.solids.specs.Sides.{has, judgeSide, someBelow, faceSides};
+ghost use Rattle.solids.specs.Frames.{pointOf, planeFor, facesAt, framedAll, Placing, sidesBy, sidesAll};
 ghost use Rattle.solids.specs.Answers.{below};
 
 fn not_near(c: Closeness) -> Verdict
@@ -146,4 +149,134 @@ pub fn face_sides(
         x += 1;
     }
     some_below(b)
+}
+
+// The point at a place of m; the origin where there is none.
+fn point_of(points: &[f64], m: usize, x: usize) -> Point3
+    requires { ⌜ 3 * m ≤ length (now points) ⌝ }
+    ensures { λ r. ⌜ r ≡ pointOf (pointsAt (now (points .entry)) 0 m) x ⌝ }
+{
+    if x < m {
+        return polygon::get_point(points, 3 * x);
+    }
+    Point3 {
+        x: 0.0,
+        y: 0.0,
+        z: 0.0,
+    }
+}
+
+// The plane of the face whose n corners have the places from a place on.
+pub fn plane_for(
+    t: Precision,
+    points: &[f64],
+    m: usize,
+    places: &[u64],
+    at: usize,
+    n: usize,
+) -> Planed
+    requires { ⌜ (3 * m ≤ length (now points)) × (at + n ≤ length (now places)) ⌝ }
+    ensures { λ r. ⌜ planed r ≡ planeFor t (pointsAt (now (points .entry)) 0 m) (countsAt (now (places .entry)) at n) ⌝ }
+{
+    if n < 3 {
+        return Planed::Refused(refusal::refuse(5));
+    }
+    let a = point_of(points, m, places[at] as usize);
+    let b = point_of(points, m, places[at + 1] as usize);
+    let c = point_of(points, m, places[at + 2] as usize);
+    space::face_plane(t, a, b, c)
+}
+
+fn made(p: Planed) -> Verdict
+    ensures { λ r. ⌜ r ≡ verdictOf (planed p) ⌝ }
+{
+    match p {
+        Planed::Made(_) => Verdict::Fine,
+        Planed::Refused(r) => Verdict::Refused(r),
+    }
+}
+
+// Each of n faces has a frame; their corners' places stand one after another.
+pub fn all_framed(
+    t: Precision,
+    points: &[f64],
+    m: usize,
+    places: &[u64],
+    counts: &[u64],
+    n: usize,
+) -> Verdict
+    requires { ⌜ (3 * m ≤ length (now points)) × (n ≤ length (now counts)) × Placing (countsAt (now counts) 0 n) 0 (length (now places)) ⌝ }
+    ensures { λ r. ⌜ r ≡ framedAll t (pointsAt (now (points .entry)) 0 m) (facesAt (now (places .entry)) 0 (countsAt (now (counts .entry)) 0 n)) ⌝ }
+{
+    let mut at = 0;
+    let mut j = 0;
+    while j < n {
+        let c = counts[j] as usize;
+        let v = made(plane_for(t, points, m, places, at, c));
+        match v {
+            Verdict::Fine => {}
+            Verdict::Refused(r) => {
+                return Verdict::Refused(r);
+            }
+        }
+        at += c;
+        j += 1;
+    }
+    Verdict::Fine
+}
+
+// The sides of all points against the plane of one face, once it has one.
+fn sides_by(
+    t: Precision,
+    made: Planed,
+    places: &[u64],
+    at: usize,
+    n: usize,
+    points: &[f64],
+    m: usize,
+) -> Verdict
+    requires { ⌜ (at + n ≤ length (now places)) × (3 * m ≤ length (now points)) ⌝ }
+    ensures { λ r. ⌜ r ≡ sidesBy t (planed made) (countsAt (now (places .entry)) at n) (pointsAt (now (points .entry)) 0 m) ⌝ }
+{
+    match made {
+        Planed::Made(w) => face_sides(t, w, places, at, n, points, m),
+        Planed::Refused(r) => Verdict::Refused(r),
+    }
+}
+
+// The points against each of n faces.
+pub fn all_sides(
+    t: Precision,
+    points: &[f64],
+    m: usize,
+    places: &[u64],
+    counts: &[u64],
+    n: usize,
+) -> Verdict
+    requires { ⌜ (3 * m ≤ length (now points)) × (n ≤ length (now counts)) × Placing (countsAt (now counts) 0 n) 0 (length (now places)) ⌝ }
+    ensures { λ r. ⌜ r ≡ sidesAll t (pointsAt (now (points .entry)) 0 m) (facesAt (now (places .entry)) 0 (countsAt (now (counts .entry)) 0 n)) ⌝ }
+{
+    let mut at = 0;
+    let mut j = 0;
+    while j < n {
+        let c = counts[j] as usize;
+        let v = sides_by(
+            t,
+            plane_for(t, points, m, places, at, c),
+            places,
+            at,
+            c,
+            points,
+            m,
+        );
+        match v {
+            Verdict::Fine => {}
+            Verdict::Refused(r) => {
+                return Verdict::Refused(r);
+            }
+        }
+        at += c;
+        j += 1;
+    }
+    Verdict::Fine
 }

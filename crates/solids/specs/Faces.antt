@@ -1,0 +1,110 @@
+-- Laws of loops over the faces of a solid in slices.
+use mathlib.Core.Path.{_≡_, refl, sym, ap, _∙_, subst}
+use mathlib.Core.Bool.{Bool, true, false}
+use mathlib.Core.List.{List, [], _∷_}
+use Prim.Native.Nat.{ℕ, zero, suc, _+_, _*_, _≤_, _<_}
+use native.Mathlib.Omega.{arith}
+use native.Mathlib.Numerals.{add-one}
+use lib.ListN.{length, take, drop, getD, length-drop, length-take}
+use lib.Seq.{getD-take, getD-drop}
+use lib.Dec.{ltb}
+use borrow.Author.Tests.{lt-ltb, le-ltb}
+use lib.Ieee.{Float}
+use Rattle.refusal.specs.declared.Refusal.{Refusal}
+use Rattle.refusal.specs.declared.Verdict.{Verdict}
+use Rattle.refusal.specs.declared.Verdict.the-variants as D
+use Rattle.refusal.specs.Outcome.{Outcome, ok, refused, unless, refuse}
+use Rattle.space.specs.declared.Point3.{Point3}
+use Rattle.space.specs.declared.Plane.{Plane}
+use Rattle.space.specs.declared.Precision.{Precision}
+use Rattle.space.specs.Vector.{origin}
+use Rattle.space.specs.Frames.{facePlane}
+use Rattle.polygon.specs.Memory.{pointAt, pointsAt}
+use Rattle.room.specs.Rooms.{countsAt}
+use Rattle.room.specs.Laws.{next-count, counts-done, point-of, length-pointsAt}
+use Rattle.solids.specs.Apart.{eachIn}
+use Rattle.solids.specs.Frames.{pointOf, planeFor, facesAt, Placing}
+use Rattle.solids.specs.Laws.{each-go, each-stop}
+
+-- ---- the point at a place
+
+pub point-in : (s : List Float) (m x : ℕ) → x < m → pointAt s (3 * x) ≡ pointOf (pointsAt s 0 m) x
+point-in s m x h = ap (pointAt s) (omega arith) ∙ sym (point-of s 0 m x origin h)
+
+getD-past : {A : Type 0} (l : List A) (x : ℕ) (d : A) → length l ≤ x → getD l x d ≡ d
+getD-past [] x d h = refl
+getD-past (y ∷ l) zero d h = absurd (omega arith)
+getD-past (y ∷ l) (suc x) d h = getD-past l x d (omega arith)
+
+pub point-out : (s : List Float) (m x : ℕ) → m ≤ x → origin ≡ pointOf (pointsAt s 0 m) x
+point-out s m x h = sym (getD-past (pointsAt s 0 m) x origin (omega (arith, length-pointsAt s 0 m)))
+
+-- ---- the plane of a face
+
+length-face : (l : List ℕ) (at n : ℕ) → at + n ≤ length l → length (countsAt l at n) ≡ n
+length-face l at n h = length-take n (drop at l) ∙ omega (arith, length-drop at l)
+
+pub place-at : (l : List ℕ) (at n i : ℕ) → i < n → getD (countsAt l at n) i 0 ≡ getD l (at + i) 0
+place-at l at n i h = getD-take n (drop at l) i 0 h ∙ getD-drop at l i 0
+
+pub few-corners : (t : Precision) (ps : List Point3) (l : List ℕ) (at n : ℕ) → at + n ≤ length l → n < 3 → planeFor t ps (countsAt l at n) ≡ refuse 5
+unfolding planeFor
+few-corners t ps l at n h k =
+    let e : ltb n 3 ≡ true = lt-ltb n 3 k in
+    ap (λ k. unless (ltb k 3) 5 (facePlane t (pointOf ps (getD (countsAt l at n) 0 0)) (pointOf ps (getD (countsAt l at n) 1 0)) (pointOf ps (getD (countsAt l at n) 2 0)))) (length-face l at n h)
+    ∙ ap (λ b. unless b 5 (facePlane t (pointOf ps (getD (countsAt l at n) 0 0)) (pointOf ps (getD (countsAt l at n) 1 0)) (pointOf ps (getD (countsAt l at n) 2 0)))) e
+
+pub three-corners : (t : Precision) (ps : List Point3) (l : List ℕ) (at n : ℕ) (a b c : Point3) → at + n ≤ length l → 3 ≤ n →
+    a ≡ pointOf ps (getD l at 0) → b ≡ pointOf ps (getD l (at + 1) 0) → c ≡ pointOf ps (getD l (at + 2) 0) → planeFor t ps (countsAt l at n) ≡ facePlane t a b c
+unfolding planeFor
+three-corners t ps l at n a b c h g x y z =
+    let e : ltb n 3 ≡ false = le-ltb n 3 g in
+    let f = countsAt l at n in
+    let p : getD (countsAt l at n) 0 0 ≡ getD l at 0 = place-at l at n 0 (omega arith) ∙ ap (λ k. getD l k 0) (omega arith) in
+    let q = place-at l at n 1 (omega arith) in
+    let r = place-at l at n 2 (omega arith) in
+    ap (λ k. unless (ltb k 3) 5 (facePlane t (pointOf ps (getD (countsAt l at n) 0 0)) (pointOf ps (getD (countsAt l at n) 1 0)) (pointOf ps (getD (countsAt l at n) 2 0)))) (length-face l at n h)
+    ∙ ap (λ d. unless d 5 (facePlane t (pointOf ps (getD (countsAt l at n) 0 0)) (pointOf ps (getD (countsAt l at n) 1 0)) (pointOf ps (getD (countsAt l at n) 2 0)))) e
+    ∙ ap (λ k. facePlane t k (pointOf ps (getD (countsAt l at n) 1 0)) (pointOf ps (getD (countsAt l at n) 2 0))) (ap (pointOf ps) p ∙ sym x)
+    ∙ ap (λ k. facePlane t a k (pointOf ps (getD (countsAt l at n) 2 0))) (ap (pointOf ps) q ∙ sym y)
+    ∙ ap (λ k. facePlane t a b k) (ap (pointOf ps) r ∙ sym z)
+
+-- ---- a loop over n faces: j are fine, and the corners of the next begin at a place
+
+pub record Facing (g : List ℕ → Verdict) (l counts : List ℕ) (n at j : ℕ) : Type 0 where
+  pub upto : j ≤ n
+  pub left : Placing (drop j (countsAt counts 0 n)) at (length l)
+  pub rest : eachIn g (facesAt l at (drop j (countsAt counts 0 n))) ≡ eachIn g (facesAt l 0 (countsAt counts 0 n))
+
+pub facing-start : (g : List ℕ → Verdict) (l counts : List ℕ) (n : ℕ) → Placing (countsAt counts 0 n) 0 (length l) → Facing g l counts n 0 0
+facing-start g l counts n h = record { upto = omega arith; left = h; rest = refl }
+
+placing-le : (ns : List ℕ) (at m : ℕ) → Placing ns at m → at ≤ m
+unfolding Placing
+placing-le [] at m h = h
+placing-le (n ∷ ns) at m h = omega (arith, placing-le ns (at + n) m h)
+
+module _ {g : List ℕ → Verdict} {l counts : List ℕ} {n at j : ℕ} (I : Facing g l counts n at j) (room : n ≤ length counts) where
+  opens : j < n → drop j (countsAt counts 0 n) ≡ getD counts j 0 ∷ drop (j + 1) (countsAt counts 0 n)
+  opens h = next-count counts 0 n j h (omega arith) ∙ ap (λ k. getD counts k 0 ∷ drop (j + 1) (countsAt counts 0 n)) (omega arith)
+
+  after : j < n → Placing (drop (j + 1) (countsAt counts 0 n)) (at + getD counts j 0) (length l)
+  unfolding Placing
+  after h = rw (opens h) at (I .left)
+
+  pub facing-room : j < n → at + getD counts j 0 ≤ length l
+  facing-room h = placing-le _ _ _ (after h)
+
+  onward : j < n → eachIn g (countsAt l at (getD counts j 0) ∷ facesAt l (at + getD counts j 0) (drop (j + 1) (countsAt counts 0 n))) ≡ eachIn g (facesAt l 0 (countsAt counts 0 n))
+  unfolding facesAt
+  onward h = ap (λ ns. eachIn g (facesAt l at ns)) (sym (opens h)) ∙ I .rest
+
+  pub facing-go : j < n → g (countsAt l at (getD counts j 0)) ≡ D.Fine → Facing g l counts n (at + getD counts j 0) (j + 1)
+  facing-go h e = record { upto = omega arith; left = after h; rest = sym (each-go g _ _ e) ∙ onward h }
+
+  pub facing-stop : (r : Refusal) → j < n → g (countsAt l at (getD counts j 0)) ≡ D.Refused r → eachIn g (facesAt l 0 (countsAt counts 0 n)) ≡ D.Refused r
+  facing-stop r h e = sym (onward h) ∙ each-stop g _ _ r e
+
+  pub facing-end : n ≤ j → eachIn g (facesAt l 0 (countsAt counts 0 n)) ≡ D.Fine
+  unfolding eachIn facesAt
+  facing-end h = sym (I .rest) ∙ ap (λ ns. eachIn g (facesAt l at ns)) (counts-done counts 0 n j h)
