@@ -103,7 +103,11 @@ cutter-refused t room at k w f s cap d n cap′ face′ g r h e u q = record {
         is = ap (λ v. heard v (record { cell = x .cell; cap = pointsAt cap′ 0 (g .caps) })) q
             ∙ ap (λ z. then z (joined t room (x .cell) (f .plane))) (sym a)
             ∙ sym (at-held (λ y. cutFace t room w y f) (s .verdict) (record { cell = x .cell; cap = pointsAt cap 0 (s .caps) }) o e (x .is));
-        floats = x .floats; counts = x .counts; faces-are = x .faces-are; corners-are = x .corners-are; small = x .small;
+        floats = x .floats;
+        counts = x .counts;
+        faces-are = x .faces-are;
+        corners-are = x .corners-are;
+        small = x .small;
       };
   few = record { few = h .few; fit = h .fit; few-caps = u .few-caps };
 }
@@ -140,7 +144,11 @@ cutter-kept t room at k w f s cap d n cap′ d′ n′ face′ g p u v r h e z q
             ∙ then-then (unique t l) (λ i. keepFace (ltb (length i) 3) room (x .cell) (record { plane = f .plane; points = i })) (λ c. ok (record { cell = c; cap = pointsAt cap′ 0 (g .caps) }))
             ∙ ap (λ i. then i (joined t room (x .cell) (f .plane))) (sym a)
             ∙ sym (at-held (λ i. cutFace t room w i f) (s .verdict) (record { cell = x .cell; cap = pointsAt cap 0 (s .caps) }) o e (x .is));
-        floats = y .floats; counts = y .counts; faces-are = y .faces-are; corners-are = y .corners-are; small = y .small;
+        floats = y .floats;
+        counts = y .counts;
+        faces-are = y .faces-are;
+        corners-are = y .corners-are;
+        small = y .small;
       };
   few = record { few = turned .few; fit = turned .fit; few-caps = z .few-caps };
 }
@@ -231,7 +239,11 @@ closer-added t room at k w s r cap d n d′ n′ u e eu turned = record {
         cell = y .cell;
         is = y .is ∙ made-then (capOf t w (pointsAt cap 0 (s .caps))) u (x .cell) (λ i c. addFace room c (record { plane = w; points = i })) eu
             ∙ sym (at-held (closed t room w) (s .verdict) (record { cell = x .cell; cap = pointsAt cap 0 (s .caps) }) o e (x .is));
-        floats = y .floats; counts = y .counts; faces-are = y .faces-are; corners-are = y .corners-are; small = y .small;
+        floats = y .floats;
+        counts = y .counts;
+        faces-are = y .faces-are;
+        corners-are = y .corners-are;
+        small = y .small;
       };
 }
 
@@ -256,3 +268,43 @@ part-clips o r a d at n k d′ n′ s e = record {
   sized = subst (λ x. Sized x (s .cell)) (sym e) (sized-answered (r .verdict) (r .faces) (r .corners) (s .cell) (s .faces-are) (s .corners-are));
   small = s .small;
 }
+
+pub cell-cut : (t : Precision) (room : ℕ) (w : Plane) (c : Cell) (d : List Float) (at : ℕ) (n : List ℕ) (k : ℕ) (s : Going) (r : Kept) (cap d′ : List Float) (n′ : List ℕ) (d″ : List Float) (n″ : List ℕ) →
+    Gone room d at n k (cutFaces t room w c) s cap d′ n′ → Closer at k (closed t room w) s r cap d′ n′ d″ n″ → Stored d at n k (cutCell t room w c) r d″ n″
+unfolding cutCell
+cell-cut t room w c d at n k s r cap d′ n′ d″ n″ g h = h .on d n (cutFaces t room w c) (g .held)
+
+-- nothing is written
+none-clips : (o : Outcome Part) (a : Clipped) (d : List Float) (at : ℕ) (n : List ℕ) (k : ℕ) → told a [] ≡ o → Sized a [] → Clips o a d at n k d n
+unfolding cellFloats cellCounts All
+none-clips o a d at n k e s = record { cell = []; is = e; floats = refl; counts = refl; sized = s; small = tt }
+
+module _ (t : Precision) (room : ℕ) (w : Plane) (c : Cell) (d : List Float) (at : ℕ) (n : List ℕ) (k : ℕ) where
+  pub by-nothing : (negative positive : Bool) → negative ≡ false → Clips (clipBy t room w c negative positive) C.Nothing d at n k d n
+  unfolding clipBy told Sized
+  by-nothing negative positive e = subst (λ x. Clips (clipBy t room w c x positive) C.Nothing d at n k d n) (sym e) (none-clips (ok nothing) C.Nothing d at n k refl refl)
+
+  module _ (a : Clipped) (r : Kept) (d′ : List Float) (n′ : List ℕ) (ea : a ≡ answered (r .verdict) (r .faces) (r .corners)) where
+    pub by-left : (negative positive : Bool) → negative ≡ true → positive ≡ false → Stored d at n k (leftCell room c) r d′ n′ → Clips (clipBy t room w c negative positive) a d at n k d′ n′
+    unfolding clipBy
+    by-left negative positive e f s =
+        subst (λ x. Clips (clipBy t room w c x positive) a d at n k d′ n′) (sym e)
+        (subst (λ x. Clips (clipBy t room w c true x) a d at n k d′ n′) (sym f) (part-clips (leftCell room c) r a d at n k d′ n′ s ea))
+
+    pub by-cut : (negative positive : Bool) → negative ≡ true → positive ≡ true → Stored d at n k (cutCell t room w c) r d′ n′ → Clips (clipBy t room w c negative positive) a d at n k d′ n′
+    unfolding clipBy
+    by-cut negative positive e f s =
+        subst (λ x. Clips (clipBy t room w c x positive) a d at n k d′ n′) (sym e)
+        (subst (λ x. Clips (clipBy t room w c true x) a d at n k d′ n′) (sym f) (part-clips (cutCell t room w c) r a d at n k d′ n′ s ea))
+
+  pub clip-refused : (s : Seen) (r : Refusal) → seen s ≡ signsOf t w c → s .verdict ≡ Refused r → Clips (clip t room w c) (C.Refused r) d at n k d n
+  unfolding clip seen heard told Sized
+  clip-refused s r e f =
+      none-clips (clip t room w c) (C.Refused r) d at n k
+      (ap (λ o. then o (λ x. clipBy t room w c (x .negative) (x .positive))) (sym (ap (λ v. heard v (record { negative = s .negative; positive = s .positive })) f) ∙ e)) tt
+
+  pub clip-on : (s : Seen) (a : Clipped) (d′ : List Float) (n′ : List ℕ) → seen s ≡ signsOf t w c → s .verdict ≡ Fine → Clips (clipBy t room w c (s .negative) (s .positive)) a d at n k d′ n′ → Clips (clip t room w c) a d at n k d′ n′
+  unfolding clip seen heard
+  clip-on s a d′ n′ e f h =
+      subst (λ o. Clips o a d at n k d′ n′)
+      (ap (λ o. then o (λ x. clipBy t room w c (x .negative) (x .positive))) (sym (ap (λ v. heard v (record { negative = s .negative; positive = s .positive })) f) ∙ e)) h

@@ -36,13 +36,16 @@ cut-face-requires : tie.Need-cut-face-requires Inv-loop μ-loop
 cut-face-requires c κs =
     let T = c .before .before .before .before .before in
     let I = T .before .loop .inv in
-    let S = T .before .before .before .before .before .before .before .before in
-    (inside T, record {
-      face-fits = omega (arith, S .pre .1 .face-fits, I .face-size);
-      cap-fits = omega (arith, S .pre .1 .cap-fits, I .cap-size);
-      place = omega (arith, S .pre .1 .place, I .size);
-      slots = omega (arith, S .pre .1 .slots, I .slots);
-    }, I .few)
+    let S = T .before .before .before .before .before .before .before .before in (
+      inside T,
+      record {
+        face-fits = omega (arith, S .pre .1 .face-fits, I .face-size);
+        cap-fits = omega (arith, S .pre .1 .cap-fits, I .cap-size);
+        place = omega (arith, S .pre .1 .place, I .size);
+        slots = omega (arith, S .pre .1 .slots, I .slots);
+      },
+      I .few,
+    )
 
 add-o : tie.Need-add-o Inv-loop μ-loop
 add-o c =
