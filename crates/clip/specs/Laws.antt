@@ -26,7 +26,8 @@ use Rattle.edge.specs.declared.Seen.{Seen}
 use Rattle.edge.specs.Meets.{Signs, unseen, seen}
 use Rattle.ring.specs.declared.Ringed.{Ringed}
 use Rattle.ring.specs.Rings.{signOne, Ring, cutRing, ringOf, Rung}
-use Rattle.room.specs.Rooms.{planeAt, cellFloats, cellCounts, faceAt, cellAt, countsAt, Within, All}
+use Rattle.polygon.specs.Members.{All}
+use Rattle.room.specs.Rooms.{planeAt, cellFloats, cellCounts, faceAt, cellAt, countsAt, Within}
 use Rattle.room.specs.Steps.{onward, onward-next, onward-end, then-then}
 use Rattle.cell.specs.declared.Kept.{Kept}
 use Rattle.cell.specs.Cells.{addFace, keepFace, leftCell, Stored, Turned}
