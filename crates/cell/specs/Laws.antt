@@ -20,7 +20,8 @@ use Rattle.polygon.specs.declared.Polygon.{Polygon}
 use Rattle.polygon.specs.Polygons.{cornersOf, polygon}
 use Rattle.polygon.specs.Memory.{pointsAt}
 use Rattle.polygon.specs.Laws.{corners-polygon}
-use Rattle.room.specs.Rooms.{planeAt, faceFloats, cellFloats, cellCounts, faceAt, cellAt, countsAt, Within, All, Small}
+use Rattle.polygon.specs.Members.{All}
+use Rattle.room.specs.Rooms.{planeAt, faceFloats, cellFloats, cellCounts, faceAt, cellAt, countsAt, Within, Small}
 use Rattle.room.specs.Laws.{corners-snoc, floats-more, counts-more, all-snoc, next-count, counts-done, cell-next, cell-none, within-small, within-rest, within-le}
 use Rattle.room.specs.Steps.{onward, onward-next, onward-end}
 use Rattle.cell.specs.declared.Kept.{Kept}

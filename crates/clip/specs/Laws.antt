@@ -26,7 +26,8 @@ use Rattle.edge.specs.declared.Seen.{Seen}
 use Rattle.edge.specs.Meets.{Signs, unseen, seen}
 use Rattle.ring.specs.declared.Ringed.{Ringed}
 use Rattle.ring.specs.Rings.{signOne, Ring, cutRing, ringOf, Rung}
-use Rattle.room.specs.Rooms.{planeAt, cellFloats, cellCounts, faceAt, cellAt, countsAt, Within, All}
+use Rattle.polygon.specs.Members.{All}
+use Rattle.room.specs.Rooms.{planeAt, cellFloats, cellCounts, faceAt, cellAt, countsAt, Within}
 use Rattle.room.specs.Steps.{onward, onward-next, onward-end, then-then}
 use Rattle.cell.specs.declared.Kept.{Kept}
 use Rattle.cell.specs.Cells.{addFace, keepFace, leftCell, Stored, Turned}
@@ -268,3 +269,43 @@ part-clips o r a d at n k d′ n′ s e = record {
   sized = subst (λ x. Sized x (s .cell)) (sym e) (sized-answered (r .verdict) (r .faces) (r .corners) (s .cell) (s .faces-are) (s .corners-are));
   small = s .small;
 }
+
+pub cell-cut : (t : Precision) (room : ℕ) (w : Plane) (c : Cell) (d : List Float) (at : ℕ) (n : List ℕ) (k : ℕ) (s : Going) (r : Kept) (cap d′ : List Float) (n′ : List ℕ) (d″ : List Float) (n″ : List ℕ) →
+    Gone room d at n k (cutFaces t room w c) s cap d′ n′ → Closer at k (closed t room w) s r cap d′ n′ d″ n″ → Stored d at n k (cutCell t room w c) r d″ n″
+unfolding cutCell
+cell-cut t room w c d at n k s r cap d′ n′ d″ n″ g h = h .on d n (cutFaces t room w c) (g .held)
+
+-- nothing is written
+none-clips : (o : Outcome Part) (a : Clipped) (d : List Float) (at : ℕ) (n : List ℕ) (k : ℕ) → told a [] ≡ o → Sized a [] → Clips o a d at n k d n
+unfolding cellFloats cellCounts All
+none-clips o a d at n k e s = record { cell = []; is = e; floats = refl; counts = refl; sized = s; small = tt }
+
+module _ (t : Precision) (room : ℕ) (w : Plane) (c : Cell) (d : List Float) (at : ℕ) (n : List ℕ) (k : ℕ) where
+  pub by-nothing : (negative positive : Bool) → negative ≡ false → Clips (clipBy t room w c negative positive) C.Nothing d at n k d n
+  unfolding clipBy told Sized
+  by-nothing negative positive e = subst (λ x. Clips (clipBy t room w c x positive) C.Nothing d at n k d n) (sym e) (none-clips (ok nothing) C.Nothing d at n k refl refl)
+
+  module _ (a : Clipped) (r : Kept) (d′ : List Float) (n′ : List ℕ) (ea : a ≡ answered (r .verdict) (r .faces) (r .corners)) where
+    pub by-left : (negative positive : Bool) → negative ≡ true → positive ≡ false → Stored d at n k (leftCell room c) r d′ n′ → Clips (clipBy t room w c negative positive) a d at n k d′ n′
+    unfolding clipBy
+    by-left negative positive e f s =
+        subst (λ x. Clips (clipBy t room w c x positive) a d at n k d′ n′) (sym e)
+        (subst (λ x. Clips (clipBy t room w c true x) a d at n k d′ n′) (sym f) (part-clips (leftCell room c) r a d at n k d′ n′ s ea))
+
+    pub by-cut : (negative positive : Bool) → negative ≡ true → positive ≡ true → Stored d at n k (cutCell t room w c) r d′ n′ → Clips (clipBy t room w c negative positive) a d at n k d′ n′
+    unfolding clipBy
+    by-cut negative positive e f s =
+        subst (λ x. Clips (clipBy t room w c x positive) a d at n k d′ n′) (sym e)
+        (subst (λ x. Clips (clipBy t room w c true x) a d at n k d′ n′) (sym f) (part-clips (cutCell t room w c) r a d at n k d′ n′ s ea))
+
+  pub clip-refused : (s : Seen) (r : Refusal) → seen s ≡ signsOf t w c → s .verdict ≡ Refused r → Clips (clip t room w c) (C.Refused r) d at n k d n
+  unfolding clip seen heard told Sized
+  clip-refused s r e f =
+      none-clips (clip t room w c) (C.Refused r) d at n k
+      (ap (λ o. then o (λ x. clipBy t room w c (x .negative) (x .positive))) (sym (ap (λ v. heard v (record { negative = s .negative; positive = s .positive })) f) ∙ e)) tt
+
+  pub clip-on : (s : Seen) (a : Clipped) (d′ : List Float) (n′ : List ℕ) → seen s ≡ signsOf t w c → s .verdict ≡ Fine → Clips (clipBy t room w c (s .negative) (s .positive)) a d at n k d′ n′ → Clips (clip t room w c) a d at n k d′ n′
+  unfolding clip seen heard
+  clip-on s a d′ n′ e f h =
+      subst (λ o. Clips o a d at n k d′ n′)
+      (ap (λ o. then o (λ x. clipBy t room w c (x .negative) (x .positive))) (sym (ap (λ v. heard v (record { negative = s .negative; positive = s .positive })) f) ∙ e)) h

@@ -20,15 +20,17 @@ use Rattle.space.specs.Shapes.{Face, Cell, Part, nothing, part, corners}
 use Rattle.side.specs.declared.Side.{Side}
 use Rattle.side.specs.declared.Side.the-variants.{Positive, Negative, Zero, Refused}
 use Rattle.side.specs.Sides.{sideOf}
-use Rattle.polygon.specs.Unique.{scan, keepIf, keepOne, unique}
+use Rattle.polygon.specs.Unique.{unique}
 use Rattle.hull.specs.Hull.{capOf}
 use Rattle.edge.specs.declared.Meet.{Meet}
 use Rattle.edge.specs.declared.Meet.the-variants as M
 use Rattle.edge.specs.Meets.{Signs, unseen, noted, isPositive, isNegative, atCorner, heldBack, cornerMeet, crosses, noRatio, between, cutMeet, unlessVague, landed, edgeMeet}
 use Rattle.edge.specs.Laws.{cut-zero, cut-between}
-use Rattle.room.specs.Rooms.{All, In}
+use Rattle.polygon.specs.Members.{All, same-ok, then-ok, unique-all}
+use Rattle.hull.specs.Members.{cap-all}
+use Rattle.room.specs.Rooms.{In}
 use Rattle.room.specs.Laws.{all-none, all-snoc, all-map, all-both, all-in, all-at}
-use Rattle.room.specs.Steps.{then-ok, unless-ok, ok-same, walk-keeps, walk-back, walk-runs}
+use Rattle.room.specs.Steps.{unless-ok, walk-keeps, walk-back, walk-runs}
 use Rattle.ring.specs.Rings.{signOne, Ring, pushFace, pushCap, pushBoth, pushed, cutBy, cutEdge, cutRing}
 use Rattle.cell.specs.Cells.{isFull, addFace, keepFace, leftCell}
 use Rattle.clip.specs.Cuts.{signFace, signsOf, Cutting, joined, cutFace, closed, cutFaces, cutCell, asPart, clipBy, clip}
@@ -48,13 +50,13 @@ module _ (P Z : Point3 → Type 0) where
   unfolding pushFace
   face-holds s s′ q e p h =
       let g = unless-ok (leb 128 (length (s .face))) 12 _ s′ e in
-      subst (Holds P Z) (ok-same _ s′ (g .1)) (record { face = all-snoc P (s .face) q (h .face) p; cap = h .cap })
+      subst (Holds P Z) (same-ok (g .1)) (record { face = all-snoc P (s .face) q (h .face) p; cap = h .cap })
 
   cap-holds : (s s′ : Ring) (q : Point3) → pushCap s q ≡ ok s′ → Z q → Holds P Z s → Holds P Z s′
   unfolding pushCap
   cap-holds s s′ q e z h =
       let g = unless-ok (leb 1024 (length (s .cap))) 12 _ s′ e in
-      subst (Holds P Z) (ok-same _ s′ (g .1)) (record { face = h .face; cap = all-snoc Z (s .cap) q (h .cap) z })
+      subst (Holds P Z) (same-ok (g .1)) (record { face = h .face; cap = all-snoc Z (s .cap) q (h .cap) z })
 
   both-holds : (s s′ : Ring) (q : Point3) → pushBoth s q ≡ ok s′ → P q → Z q → Holds P Z s → Holds P Z s′
   unfolding pushBoth
@@ -73,7 +75,7 @@ module _ (P Z : Point3 → Type 0) where
   pushed-holds : (s s′ : Ring) (a : Point3) (m : Meet) → Allowed a m → pushed s a m ≡ ok s′ → Holds P Z s → Holds P Z s′
   unfolding pushed
   pushed-holds s s′ a M.Keep p e h = face-holds s s′ a e p h
-  pushed-holds s s′ a M.Drop p e h = subst (Holds P Z) (ok-same s s′ e) h
+  pushed-holds s s′ a M.Drop p e h = subst (Holds P Z) (same-ok e) h
   pushed-holds s s′ a M.Touch p e h = both-holds s s′ a e (p .0) (p .1) h
   pushed-holds s s′ a (M.Cut x y z) p e h = both-holds s s′ _ e (p .0) (p .1) h
   pushed-holds s s′ a (M.Refused r) p e h = absurd (let n : _≡_ {A = ℕ} 0 1 = cc in omega arith)
@@ -117,19 +119,6 @@ all-cyclic : (Q : Point3 → Type 0) (l : List Point3) → All Q l → All (λ e
 unfolding cyclic
 all-cyclic Q [] a = all-none _
 all-cyclic Q (x ∷ l) a = all-from Q x (x ∷ l) a
-
--- ---- `unique` adds no point
-
-keep-if-all : (P : Point3 → Type 0) (c : Closeness) (kept kept′ : List Point3) (q : Point3) → keepIf c kept q ≡ ok kept′ → P q → All P kept → All P kept′
-unfolding keepIf
-keep-if-all P N.Near kept kept′ q e p a = subst (All P) (ok-same kept kept′ e) a
-keep-if-all P N.Apart kept kept′ q e p a = subst (All P) (ok-same _ kept′ e) (all-snoc P kept q a p)
-keep-if-all P (N.Refused r) kept kept′ q e p a = absurd (let n : _≡_ {A = ℕ} 0 1 = cc in omega arith)
-
-pub unique-all : (P : Point3 → Type 0) (t : Precision) (l l′ : List Point3) → unique t l ≡ ok l′ → All P l → All P l′
-unfolding unique keepOne
-unique-all P t l l′ e a =
-    walk-keeps (All P) (keepOne t) l (all-map P _ l (λ q p s s′ g h. keep-if-all P (scan t q N.Apart s) s s′ q g p h) a) [] l′ e (all-none P)
 
 -- ---- a face, and the whole cell
 
@@ -175,11 +164,11 @@ module _ (P Z : Point3 → Type 0) (t : Precision) (w : Plane) where
   unfolding addFace
   add-corners room c c′ f e p a =
       let g = unless-ok (isFull room (length c) (corners 0 c) (length (f .points))) 12 _ c′ e in
-      subst (Corners P) (ok-same _ c′ (g .1)) (all-snoc _ c f a p)
+      subst (Corners P) (same-ok (g .1)) (all-snoc _ c f a p)
 
   keep-corners : (b : Bool) (room : ℕ) (c c′ : Cell) (f : Face) → keepFace b room c f ≡ ok c′ → All P (f .points) → Corners P c → Corners P c′
   unfolding keepFace
-  keep-corners true room c c′ f e p a = subst (Corners P) (ok-same c c′ e) a
+  keep-corners true room c c′ f e p a = subst (Corners P) (same-ok e) a
   keep-corners false room c c′ f e p a = add-corners room c c′ f e p a
 
   face-whole : (room : ℕ) (f : Face) → Fair f → (s s′ : Cutting) → cutFace t room w s f ≡ ok s′ → Whole s → Whole s′
@@ -189,8 +178,8 @@ module _ (P Z : Point3 → Type 0) (t : Precision) (w : Plane) where
       let u = then-ok (unique t (r .0 .face)) _ s′ (r .2) in
       let k = then-ok (keepFace (ltb (length (u .0)) 3) room (s .cell) (record { plane = f .plane; points = u .0 })) _ s′ (u .2) in
       let g = ring-holds f h (s .cap) (r .0) (r .1) (a .cap) in
-      subst Whole (ok-same _ s′ (k .2)) (record {
-        cell = keep-corners _ room (s .cell) (k .0) _ (k .1) (unique-all P t (r .0 .face) (u .0) (u .1) (g .face)) (a .cell);
+      subst Whole (same-ok (k .2)) (record {
+        cell = keep-corners _ room (s .cell) (k .0) _ (k .1) (unique-all P t (r .0 .face) (u .0) (g .face) (u .1)) (a .cell);
         cap = g .cap;
       })
 
@@ -202,15 +191,14 @@ module _ (P Z : Point3 → Type 0) (t : Precision) (w : Plane) where
     pub kept : Corners P before
     pub zero : All Z cap
 
-  cut-closed : (cap-all : (Q : Point3 → Type 0) (l l′ : List Point3) → capOf t w l ≡ ok l′ → All Q l → All Q l′) →
-      (room : ℕ) (c d : Cell) → All Fair c → cutCell t room w c ≡ ok d → Closed d
+  cut-closed : (room : ℕ) (c d : Cell) → All Fair c → cutCell t room w c ≡ ok d → Closed d
   unfolding cutCell cutFaces closed addFace
-  cut-closed cap-all room c d h e =
+  cut-closed room c d h e =
       let r = then-ok (walk (cutFace t room w) (record { cell = []; cap = [] }) c) (closed t room w) d e in
       let g = walk-keeps Whole (cutFace t room w) c (all-map Fair _ c (λ f k. face-whole room f k) h) (record { cell = []; cap = [] }) (r .0) (r .1) (record { cell = all-none _; cap = all-none Z }) in
       let k = then-ok (capOf t w (r .0 .cap)) (λ l. addFace room (r .0 .cell) (record { plane = w; points = l })) d (r .2) in
       let u = unless-ok (isFull room (length (r .0 .cell)) (corners 0 (r .0 .cell)) (length (k .0))) 12 _ d (k .2) in
-      record { before = r .0 .cell; cap = k .0; is = sym (ok-same _ d (u .1)); kept = g .cell; zero = cap-all Z (r .0 .cap) (k .0) (k .1) (g .cap) }
+      record { before = r .0 .cell; cap = k .0; is = sym (same-ok (u .1)); kept = g .cell; zero = cap-all Z t w (r .0 .cap) (k .0) (g .cap) (k .1) }
 
 -- ---- which sides the corners lie on
 
@@ -240,23 +228,23 @@ noted-runs s (Refused r) e = absurd (let n : _≡_ {A = ℕ} 0 1 = cc in omega a
 
 noted-negative : (s s′ : Signs) (d : Side) → noted s d ≡ ok s′ → s′ .negative ≡ false → (s .negative ≡ false) × (isNegative d ≡ false)
 unfolding noted
-noted-negative s s′ Positive e n = (ap (λ x. x .negative) (ok-same _ s′ e) ∙ n, refl)
-noted-negative s s′ Negative e n = absurd (let m : true ≡ false = ap (λ x. x .negative) (ok-same _ s′ e) ∙ n in let z : _≡_ {A = ℕ} 0 1 = cc in omega arith)
-noted-negative s s′ Zero e n = (ap (λ x. x .negative) (ok-same s s′ e) ∙ n, refl)
+noted-negative s s′ Positive e n = (ap (λ x. x .negative) (same-ok e) ∙ n, refl)
+noted-negative s s′ Negative e n = absurd (let m : true ≡ false = ap (λ x. x .negative) (same-ok e) ∙ n in let z : _≡_ {A = ℕ} 0 1 = cc in omega arith)
+noted-negative s s′ Zero e n = (ap (λ x. x .negative) (same-ok e) ∙ n, refl)
 noted-negative s s′ (Refused r) e n = absurd (let z : _≡_ {A = ℕ} 0 1 = cc in omega arith)
 
 noted-positive : (s s′ : Signs) (d : Side) → noted s d ≡ ok s′ → s′ .positive ≡ false → (s .positive ≡ false) × (isPositive d ≡ false)
 unfolding noted
-noted-positive s s′ Positive e n = absurd (let m : true ≡ false = ap (λ x. x .positive) (ok-same _ s′ e) ∙ n in let z : _≡_ {A = ℕ} 0 1 = cc in omega arith)
-noted-positive s s′ Negative e n = (ap (λ x. x .positive) (ok-same _ s′ e) ∙ n, refl)
-noted-positive s s′ Zero e n = (ap (λ x. x .positive) (ok-same s s′ e) ∙ n, refl)
+noted-positive s s′ Positive e n = absurd (let m : true ≡ false = ap (λ x. x .positive) (same-ok e) ∙ n in let z : _≡_ {A = ℕ} 0 1 = cc in omega arith)
+noted-positive s s′ Negative e n = (ap (λ x. x .positive) (same-ok e) ∙ n, refl)
+noted-positive s s′ Zero e n = (ap (λ x. x .positive) (same-ok e) ∙ n, refl)
 noted-positive s s′ (Refused r) e n = absurd (let z : _≡_ {A = ℕ} 0 1 = cc in omega arith)
 
 noted-not : (s s′ : Signs) (d : Side) → isNegative d ≡ false → noted s d ≡ ok s′ → s .negative ≡ false → s′ .negative ≡ false
 unfolding noted
-noted-not s s′ Positive h e n = ap (λ x. x .negative) (sym (ok-same _ s′ e)) ∙ n
+noted-not s s′ Positive h e n = ap (λ x. x .negative) (sym (same-ok e)) ∙ n
 noted-not s s′ Negative h e n = absurd (let z : _≡_ {A = ℕ} 0 1 = cc in omega arith)
-noted-not s s′ Zero h e n = ap (λ x. x .negative) (sym (ok-same s s′ e)) ∙ n
+noted-not s s′ Zero h e n = ap (λ x. x .negative) (sym (same-ok e)) ∙ n
 noted-not s s′ (Refused r) h e n = absurd (let z : _≡_ {A = ℕ} 0 1 = cc in omega arith)
 
 module _ (t : Precision) (w : Plane) (c : Cell) where
@@ -293,11 +281,11 @@ module _ (t : Precision) (w : Plane) (c : Cell) where
 -- a cell that is left whole is itself
 left-from : (room : ℕ) (acc c d : Cell) → walk (addFace room) acc c ≡ ok d → d ≡ acc ++ c
 unfolding walk addFace
-left-from room acc [] d e = sym (ok-same acc d e) ∙ sym (append-nil acc)
+left-from room acc [] d e = sym (same-ok e) ∙ sym (append-nil acc)
 left-from room acc (f ∷ c) d e =
     let g = then-ok (addFace room acc f) (λ x. walk (addFace room) x c) d e in
     let u = unless-ok (isFull room (length acc) (corners 0 acc) (length (f .points))) 12 _ (g .0) (g .1) in
-    left-from room (g .0) c d (g .2) ∙ ap (λ x. x ++ c) (sym (ok-same _ (g .0) (u .1))) ∙ append-assoc acc (f ∷ []) c
+    left-from room (g .0) c d (g .2) ∙ ap (λ x. x ++ c) (sym (same-ok (u .1))) ∙ append-assoc acc (f ∷ []) c
 
 part-same : (c d : Cell) → asPart c ≡ ok (part d) → c ≡ d
 part-same c d e = cc
@@ -355,7 +343,7 @@ module _ (t : Precision) (room : ℕ) (w : Plane) (c : Cell) where
     pub crossing : crosses (sideOf t w (edge .from)) (sideOf t w (edge .to)) ≡ true
     pub is : q ≡ between w (edge .from) (edge .to)
 
-  module _ (cap-all : (Q : Point3 → Type 0) (l l′ : List Point3) → capOf t w l ≡ ok l′ → All Q l → All Q l′) (d : Cell) (e : clip t room w c ≡ ok (part d)) where
+  module _ (d : Cell) (e : clip t room w c ≡ ok (part d)) where
     fair-sides : All (Fair (λ q. isPositive (sideOf t w q) ≡ false) (λ q. sideOf t w q ≡ Zero) t w) c
     fair-sides =
         all-in _ c (λ f h. record {
@@ -372,14 +360,14 @@ module _ (t : Precision) (room : ℕ) (w : Plane) (c : Cell) where
         ⊎-elim
         (λ h. subst (NonePositive t w) (sym (h .1)) (h .0))
         (λ h.
-        let k = cut-closed (λ q. isPositive (sideOf t w q) ≡ false) (λ q. sideOf t w q ≡ Zero) t w cap-all room c d fair-sides h in
+        let k = cut-closed (λ q. isPositive (sideOf t w q) ≡ false) (λ q. sideOf t w q ≡ Zero) t w room c d fair-sides h in
         subst (NonePositive t w) (sym (k .is)) (all-snoc _ (k .before) _ (k .kept) (all-map _ _ (k .cap) zero-below (k .zero))))
         (part-of d e)
 
     -- "each cap corner is Zero": the cell is left whole, or its last face is a cap
     pub cut-cap : (NonePositive t w c × (d ≡ c)) ⊎ Closed (λ q. isPositive (sideOf t w q) ≡ false) (λ q. sideOf t w q ≡ Zero) t w d
     cut-cap =
-        ⊎-elim inl (λ h. inr (cut-closed (λ q. isPositive (sideOf t w q) ≡ false) (λ q. sideOf t w q ≡ Zero) t w cap-all room c d fair-sides h)) (part-of d e)
+        ⊎-elim inl (λ h. inr (cut-closed (λ q. isPositive (sideOf t w q) ≡ false) (λ q. sideOf t w q ≡ Zero) t w room c d fair-sides h)) (part-of d e)
 
     -- a corner that it gives is one of the cell's, or a cut point of one of its edges
     pub cut-from : Corners (λ q. Old q ⊎ New q) d
@@ -395,6 +383,6 @@ module _ (t : Precision) (room : ℕ) (w : Plane) (c : Cell) where
             cap = λ k z. inr (record { face = f; of-cell = i; edge = p; of-face = j; crossing = k; is = refl });
           });
         }) in
-        let k = cut-closed (λ q. Old q ⊎ New q) (λ q. Old q ⊎ New q) t w cap-all room c d g h in
+        let k = cut-closed (λ q. Old q ⊎ New q) (λ q. Old q ⊎ New q) t w room c d g h in
         subst (Corners (λ q. Old q ⊎ New q)) (sym (k .is)) (all-snoc _ (k .before) _ (k .kept) (k .zero)))
         (part-of d e)

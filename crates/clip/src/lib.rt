@@ -198,3 +198,166 @@ fn answer(r: Kept) -> Clipped
         Verdict::Refused(e) => Clipped::Refused(e),
     }
 }
+
+fn cut_cell(
+    t: Precision,
+    limit: usize,
+    plane: Plane,
+    src: &[f64],
+    from: usize,
+    sizes: &[u64],
+    j: usize,
+    faces: usize,
+    dst: &mut [f64],
+    at: usize,
+    counts: &mut [u64],
+    k: usize,
+    face: &mut [f64],
+    cap: &mut [f64],
+    flat: &mut [f64],
+    order: &mut [u64],
+    chain: &mut [u64],
+) -> Kept
+    requires { ⌜ Given (now src) from (now sizes) j faces × Space limit (now face) (now cap) (now dst) at (now counts) k × Hulls (now flat) (now order) (now chain) ⌝ }
+    ensures { λ r. ⌜ Stored (now (dst .entry)) at (now (counts .entry)) k (cutCell t limit plane (cellAt (now (src .entry)) from (countsAt (now (sizes .entry)) j faces))) r (now (dst .exit)) (now (counts .exit)) ⌝ }
+{
+    let s = cut_faces(
+        t,
+        limit,
+        plane,
+        src,
+        from,
+        sizes,
+        j,
+        faces,
+        face,
+        cap,
+        dst,
+        at,
+        counts,
+        k,
+    );
+    close(
+        t,
+        limit,
+        plane,
+        s,
+        cap,
+        flat,
+        order,
+        chain,
+        dst,
+        at,
+        counts,
+        k,
+    )
+}
+
+// By whether corners lie on the negative and on the positive side.
+fn clip_by(
+    negative: bool,
+    positive: bool,
+    t: Precision,
+    limit: usize,
+    plane: Plane,
+    src: &[f64],
+    from: usize,
+    sizes: &[u64],
+    j: usize,
+    faces: usize,
+    dst: &mut [f64],
+    at: usize,
+    counts: &mut [u64],
+    k: usize,
+    face: &mut [f64],
+    cap: &mut [f64],
+    flat: &mut [f64],
+    order: &mut [u64],
+    chain: &mut [u64],
+) -> Clipped
+    requires { ⌜ Given (now src) from (now sizes) j faces × Space limit (now face) (now cap) (now dst) at (now counts) k × Hulls (now flat) (now order) (now chain) ⌝ }
+    ensures { λ r. ⌜ Clips (clipBy t limit plane (cellAt (now (src .entry)) from (countsAt (now (sizes .entry)) j faces)) negative positive) r (now (dst .entry)) at (now (counts .entry)) k (now (dst .exit)) (now (counts .exit)) ⌝ }
+{
+    if negative {
+        if positive {
+            let r = cut_cell(
+                t,
+                limit,
+                plane,
+                src,
+                from,
+                sizes,
+                j,
+                faces,
+                dst,
+                at,
+                counts,
+                k,
+                face,
+                cap,
+                flat,
+                order,
+                chain,
+            );
+            return answer(r);
+        }
+        let r = cell::left_cell(limit, src, from, sizes, j, faces, dst, at, counts, k);
+        return answer(r);
+    }
+    Clipped::Nothing
+}
+
+// The cell that stands in `src` from `from` on, its faces' numbers of corners in `sizes` from `j` on; its part below the plane
+// is put into `dst` and `counts` behind `at` and `k`, with at most `limit` corners. The other slices are work memory: what they
+// hold after the call is free, and so is what a refusal leaves behind `at` and `k`.
+pub fn clip(
+    t: Precision,
+    limit: usize,
+    plane: Plane,
+    src: &[f64],
+    from: usize,
+    sizes: &[u64],
+    j: usize,
+    faces: usize,
+    dst: &mut [f64],
+    at: usize,
+    counts: &mut [u64],
+    k: usize,
+    face: &mut [f64],
+    cap: &mut [f64],
+    flat: &mut [f64],
+    order: &mut [u64],
+    chain: &mut [u64],
+) -> Clipped
+    requires { ⌜ Given (now src) from (now sizes) j faces × Space limit (now face) (now cap) (now dst) at (now counts) k × Hulls (now flat) (now order) (now chain) ⌝ }
+    ensures { λ r. ⌜ Clips (clip t limit plane (cellAt (now (src .entry)) from (countsAt (now (sizes .entry)) j faces))) r (now (dst .entry)) at (now (counts .entry)) k (now (dst .exit)) (now (counts .exit)) ⌝ }
+{
+    let s = sign_cell(t, plane, src, from, sizes, j, faces);
+    let v = s.verdict;
+    let negative = s.negative;
+    let positive = s.positive;
+    match v {
+        Verdict::Refused(r) => Clipped::Refused(r),
+        Verdict::Fine => clip_by(
+            negative,
+            positive,
+            t,
+            limit,
+            plane,
+            src,
+            from,
+            sizes,
+            j,
+            faces,
+            dst,
+            at,
+            counts,
+            k,
+            face,
+            cap,
+            flat,
+            order,
+            chain,
+        ),
+    }
+}

@@ -19,7 +19,8 @@ use Rattle.lists.specs.Laws.{next, done, pad-set, next-pair, length-cyclic}
 use Rattle.polygon.specs.declared.Polygon.{Polygon}
 use Rattle.polygon.specs.Polygons.{padded, polygon}
 use Rattle.polygon.specs.Memory.{floats, floatsOf, pointAt, pointsAt}
-use Rattle.room.specs.Rooms.{planeFloats, planeAt, faceFloats, cellFloats, cellCounts, faceAt, cellAt, countsAt, Within, All, In, Small}
+use Rattle.polygon.specs.Members.{All}
+use Rattle.room.specs.Rooms.{planeFloats, planeAt, faceFloats, cellFloats, cellCounts, faceAt, cellAt, countsAt, Within, In, Small}
 
 -- ---- runs of stores
 

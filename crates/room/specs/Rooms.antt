@@ -8,6 +8,7 @@ use lib.Ieee.{Float}
 use Rattle.space.specs.declared.Plane.{Plane}
 use Rattle.space.specs.Shapes.{Face, Cell}
 use Rattle.polygon.specs.Memory.{floats, floatsOf, pointAt, pointsAt}
+use Rattle.polygon.specs.Members.{All}
 
 -- a plane as it lies in memory, and at a place
 abbrev pub planeFloats : Plane → List Float
@@ -45,11 +46,6 @@ countsAt l k n = take n (drop k l)
 unfoldable pub Within : List ℕ → ℕ → ℕ → Type 0
 Within [] at m = at ≤ m
 Within (n ∷ ns) at m = (n ≤ 128) × Within ns (at + 12 + 3 * n) m
-
--- every element has the property
-unfoldable pub All : {A : Type 0} → (A → Type 0) → List A → Type 0
-All p [] = Unit {0}
-All p (x ∷ l) = p x × All p l
 
 -- x is one of the elements
 unfoldable pub In : {A : Type 0} → A → List A → Type 0

@@ -3,9 +3,8 @@ use mathlib.Core.Path.{_≡_, refl, sym, ap, _∙_}
 use mathlib.Core.Bool.{Bool, true, false}
 use mathlib.Core.List.{List, [], _∷_}
 use Prim.Native.Nat.{ℕ}
-use native.Mathlib.Omega.{arith}
 use Rattle.refusal.specs.Outcome.{Outcome, ok, refused, then, unless, walk}
-use Rattle.room.specs.Rooms.{All}
+use Rattle.polygon.specs.Members.{All, same-ok, never-ok, then-ok}
 
 -- what a walk from a heard state on still gives
 abbrev pub onward : {S A : Type 0} → (S → A → Outcome S) → Outcome S → List A → Outcome S
@@ -30,22 +29,15 @@ then-then (refused r) f g = refl
 
 -- ---- what an answer says of the steps that led to it
 
-pub then-ok : {A B : Type 0} (o : Outcome A) (f : A → Outcome B) (b : B) → then o f ≡ ok b → (a : A) × (o ≡ ok a) × (f a ≡ ok b)
-then-ok (ok a) f b e = (a, refl, e)
-then-ok (refused r) f b e = absurd (let z : _≡_ {A = ℕ} 0 1 = cc in omega arith)
-
 pub unless-ok : {A : Type 0} (t : Bool) (n : ℕ) (o : Outcome A) (a : A) → unless t n o ≡ ok a → (t ≡ false) × (o ≡ ok a)
-unless-ok true n o a e = absurd (let z : _≡_ {A = ℕ} 0 1 = cc in omega arith)
+unless-ok true n o a e = never-ok e
 unless-ok false n o a e = (refl, e)
-
-pub ok-same : {A : Type 0} (a b : A) → _≡_ {A = Outcome A} (ok a) (ok b) → a ≡ b
-ok-same a b e = cc
 
 -- what each turn keeps, the walk keeps
 pub walk-keeps : {S A : Type 0} (I : S → Type 0) (f : S → A → Outcome S) (l : List A) → All (λ x. (s s′ : S) → f s x ≡ ok s′ → I s → I s′) l →
     (s s′ : S) → walk f s l ≡ ok s′ → I s → I s′
 unfolding walk All
-walk-keeps I f [] h s s′ e i = rw (ok-same s s′ e) at i
+walk-keeps I f [] h s s′ e i = rw (same-ok e) at i
 walk-keeps I f (x ∷ l) h s s′ e i =
     let g = then-ok (f s x) (λ z. walk f z l) s′ e in
     walk-keeps I f l (h .1) (g .0) s′ (g .2) (h .0 s (g .0) (g .1) i)
@@ -54,7 +46,7 @@ walk-keeps I f (x ∷ l) h s s′ e i =
 pub walk-back : {S A : Type 0} (J : S → Type 0) (Q : A → Type 0) (f : S → A → Outcome S) → ((s s′ : S) (x : A) → f s x ≡ ok s′ → J s′ → J s × Q x) →
     (l : List A) (s s′ : S) → walk f s l ≡ ok s′ → J s′ → J s × All Q l
 unfolding walk All
-walk-back J Q f h [] s s′ e j = (rw (sym (ok-same s s′ e)) at j, tt)
+walk-back J Q f h [] s s′ e j = (rw (sym (same-ok e)) at j, tt)
 walk-back J Q f h (x ∷ l) s s′ e j =
     let g = then-ok (f s x) (λ z. walk f z l) s′ e in
     let r = walk-back J Q f h l (g .0) s′ (g .2) j in
