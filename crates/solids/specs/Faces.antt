@@ -1,6 +1,6 @@
 -- Laws of loops over the faces of a solid in slices.
 use mathlib.Core.Path.{_≡_, refl, sym, ap, _∙_, subst}
-use mathlib.Core.Bool.{Bool, true, false}
+use mathlib.Core.Bool.{Bool, true, false, _&&_}
 use mathlib.Core.List.{List, [], _∷_}
 use Prim.Native.Nat.{ℕ, zero, suc, _+_, _*_, _≤_, _<_}
 use native.Mathlib.Omega.{arith}
@@ -21,9 +21,11 @@ use Rattle.space.specs.Vector.{origin}
 use Rattle.space.specs.Frames.{facePlane}
 use Rattle.polygon.specs.Memory.{pointAt, pointsAt}
 use Rattle.room.specs.Rooms.{countsAt}
-use Rattle.room.specs.Laws.{next-count, counts-done, point-of, length-pointsAt}
-use Rattle.solids.specs.Apart.{eachIn}
-use Rattle.solids.specs.Frames.{pointOf, planeFor, facesAt, Placing}
+use Rattle.room.specs.Laws.{next-point, points-done, next-count, counts-done, point-of, length-pointsAt}
+use Rattle.lists.specs.Walks.{all}
+use Rattle.solids.specs.Apart.{firstOf, eachIn, apartAll}
+use Rattle.solids.specs.Frames.{pointOf, planeFor, facesAt, framedAll, Placing, sidesAll}
+use Rattle.solids.specs.Order.{shaped}
 use Rattle.solids.specs.Laws.{each-go, each-stop}
 
 -- ---- the point at a place
@@ -108,3 +110,37 @@ module _ {g : List ℕ → Verdict} {l counts : List ℕ} {n at j : ℕ} (I : Fa
   pub facing-end : n ≤ j → eachIn g (facesAt l 0 (countsAt counts 0 n)) ≡ D.Fine
   unfolding eachIn facesAt
   facing-end h = sym (I .rest) ∙ ap (λ ns. eachIn g (facesAt l at ns)) (counts-done counts 0 n j h)
+
+-- ---- a test of each element
+
+pub points-next : (g : Point3 → Bool) (b : Bool) (s : List Float) (m i : ℕ) (p : Point3) → i < m → p ≡ pointAt s (3 * i) →
+    all g b (drop i (pointsAt s 0 m)) ≡ all g (b && g p) (drop (i + 1) (pointsAt s 0 m))
+unfolding all
+points-next g b s m i p h e = ap (all g b) (next-point s 0 m i h) ∙ ap (λ q. all g (b && g q) (drop (i + 1) (pointsAt s 0 m))) (ap (pointAt s) (omega arith) ∙ sym e)
+
+pub points-end : (g : Point3 → Bool) (b : Bool) (s : List Float) (m i : ℕ) → m ≤ i → all g b (drop i (pointsAt s 0 m)) ≡ b
+unfolding all
+points-end g b s m i h = ap (all g b) (points-done s 0 m i h)
+
+pub counts-next : (g : ℕ → Bool) (b : Bool) (l : List ℕ) (n j : ℕ) → j < n → n ≤ length l →
+    all g b (drop j (countsAt l 0 n)) ≡ all g (b && g (getD l j 0)) (drop (j + 1) (countsAt l 0 n))
+unfolding all
+counts-next g b l n j h k = ap (all g b) (next-count l 0 n j h (omega arith)) ∙ ap (λ i. all g (b && g (getD l i 0)) (drop (j + 1) (countsAt l 0 n))) (omega arith)
+
+pub counts-end : (g : ℕ → Bool) (b : Bool) (l : List ℕ) (n j : ℕ) → n ≤ j → all g b (drop j (countsAt l 0 n)) ≡ b
+unfolding all
+counts-end g b l n j h = ap (all g b) (counts-done l 0 n j h)
+
+-- ---- the order of the checks
+
+pub shape-frames : (t : Precision) (ps : List Point3) (fs : List (List ℕ)) (r : Refusal) → framedAll t ps fs ≡ D.Refused r → shaped t ps fs ≡ D.Refused r
+unfolding shaped firstOf
+shape-frames t ps fs r e = ap (λ v. firstOf v (firstOf (apartAll t ps) (sidesAll t ps fs))) e
+
+pub shape-pairs : (t : Precision) (ps : List Point3) (fs : List (List ℕ)) (r : Refusal) → framedAll t ps fs ≡ D.Fine → apartAll t ps ≡ D.Refused r → shaped t ps fs ≡ D.Refused r
+unfolding shaped firstOf
+shape-pairs t ps fs r e g = ap (λ v. firstOf v (firstOf (apartAll t ps) (sidesAll t ps fs))) e ∙ ap (λ v. firstOf v (sidesAll t ps fs)) g
+
+pub shape-sides : (t : Precision) (ps : List Point3) (fs : List (List ℕ)) → framedAll t ps fs ≡ D.Fine → apartAll t ps ≡ D.Fine → shaped t ps fs ≡ sidesAll t ps fs
+unfolding shaped firstOf
+shape-sides t ps fs e g = ap (λ v. firstOf v (firstOf (apartAll t ps) (sidesAll t ps fs))) e ∙ ap (λ v. firstOf v (sidesAll t ps fs)) g

@@ -18,6 +18,8 @@ ghost use Rattle.room.specs.Rooms.{countsAt};
 ghost use Rattle.solids.specs.Apart.{notNear, apartFrom, apartAll};
 ghost use Rattle.solids.specs.Sides.{has, judgeSide, someBelow, faceSides};
 ghost use Rattle.solids.specs.Frames.{pointOf, planeFor, facesAt, framedAll, Placing, sidesBy, sidesAll};
+ghost use Rattle.lists.specs.Walks.{all};
+ghost use Rattle.solids.specs.Order.{fairAll, within, countedAll, shaped};
 ghost use Rattle.solids.specs.Answers.{below};
 
 fn not_near(c: Closeness) -> Verdict
@@ -279,4 +281,70 @@ pub fn all_sides(
         j += 1;
     }
     Verdict::Fine
+}
+
+// Each of m points is finite and at most 2^20 in size.
+pub fn all_fair(points: &[f64], m: usize) -> bool
+    requires { ⌜ 3 * m ≤ length (now points) ⌝ }
+    ensures { λ r. ⌜ r ≡ fairAll (pointsAt (now (points .entry)) 0 m) ⌝ }
+{
+    let mut fine = true;
+    let mut i = 0;
+    while i < m {
+        fine = fine & space::is_fair_point(polygon::get_point(points, 3 * i));
+        i += 1;
+    }
+    fine
+}
+
+fn is_within(low: usize, high: usize, n: usize) -> bool
+    ensures { λ r. ⌜ r ≡ within low high n ⌝ }
+{
+    (low <= n) & (n <= high)
+}
+
+// Each of n faces has 3 to 64 corners.
+fn all_polygons(counts: &[u64], n: usize) -> bool
+    requires { ⌜ n ≤ length (now counts) ⌝ }
+    ensures { λ r. ⌜ r ≡ all (within 3 64) true (countsAt (now (counts .entry)) 0 n) ⌝ }
+{
+    let mut fine = true;
+    let mut j = 0;
+    while j < n {
+        let c = counts[j] as usize;
+        fine = fine & is_within(3, 64, c);
+        j += 1;
+    }
+    fine
+}
+
+// The counts of an input solid: m points, and n faces.
+pub fn is_counted(m: usize, counts: &[u64], n: usize) -> bool
+    requires { ⌜ n ≤ length (now counts) ⌝ }
+    ensures { λ r. ⌜ r ≡ countedAll m n (countsAt (now (counts .entry)) 0 n) ⌝ }
+{
+    (is_within(4, 128, m) & is_within(4, 64, n)) & all_polygons(counts, n)
+}
+
+// Frames, then pairs of points, then sides.
+pub fn shape(
+    t: Precision,
+    points: &[f64],
+    m: usize,
+    places: &[u64],
+    counts: &[u64],
+    n: usize,
+) -> Verdict
+    requires { ⌜ (3 * m ≤ length (now points)) × (n ≤ length (now counts)) × Placing (countsAt (now counts) 0 n) 0 (length (now places)) ⌝ }
+    ensures { λ r. ⌜ r ≡ shaped t (pointsAt (now (points .entry)) 0 m) (facesAt (now (places .entry)) 0 (countsAt (now (counts .entry)) 0 n)) ⌝ }
+{
+    let framed = all_framed(t, points, m, places, counts, n);
+    let Verdict::Fine = framed else {
+        return framed;
+    };
+    let apart = all_apart(t, points, m);
+    let Verdict::Fine = apart else {
+        return apart;
+    };
+    all_sides(t, points, m, places, counts, n)
 }
