@@ -103,7 +103,11 @@ cutter-refused t room at k w f s cap d n cap′ face′ g r h e u q = record {
         is = ap (λ v. heard v (record { cell = x .cell; cap = pointsAt cap′ 0 (g .caps) })) q
             ∙ ap (λ z. then z (joined t room (x .cell) (f .plane))) (sym a)
             ∙ sym (at-held (λ y. cutFace t room w y f) (s .verdict) (record { cell = x .cell; cap = pointsAt cap 0 (s .caps) }) o e (x .is));
-        floats = x .floats; counts = x .counts; faces-are = x .faces-are; corners-are = x .corners-are; small = x .small;
+        floats = x .floats;
+        counts = x .counts;
+        faces-are = x .faces-are;
+        corners-are = x .corners-are;
+        small = x .small;
       };
   few = record { few = h .few; fit = h .fit; few-caps = u .few-caps };
 }
@@ -140,7 +144,11 @@ cutter-kept t room at k w f s cap d n cap′ d′ n′ face′ g p u v r h e z q
             ∙ then-then (unique t l) (λ i. keepFace (ltb (length i) 3) room (x .cell) (record { plane = f .plane; points = i })) (λ c. ok (record { cell = c; cap = pointsAt cap′ 0 (g .caps) }))
             ∙ ap (λ i. then i (joined t room (x .cell) (f .plane))) (sym a)
             ∙ sym (at-held (λ i. cutFace t room w i f) (s .verdict) (record { cell = x .cell; cap = pointsAt cap 0 (s .caps) }) o e (x .is));
-        floats = y .floats; counts = y .counts; faces-are = y .faces-are; corners-are = y .corners-are; small = y .small;
+        floats = y .floats;
+        counts = y .counts;
+        faces-are = y .faces-are;
+        corners-are = y .corners-are;
+        small = y .small;
       };
   few = record { few = turned .few; fit = turned .fit; few-caps = z .few-caps };
 }
@@ -231,7 +239,11 @@ closer-added t room at k w s r cap d n d′ n′ u e eu turned = record {
         cell = y .cell;
         is = y .is ∙ made-then (capOf t w (pointsAt cap 0 (s .caps))) u (x .cell) (λ i c. addFace room c (record { plane = w; points = i })) eu
             ∙ sym (at-held (closed t room w) (s .verdict) (record { cell = x .cell; cap = pointsAt cap 0 (s .caps) }) o e (x .is));
-        floats = y .floats; counts = y .counts; faces-are = y .faces-are; corners-are = y .corners-are; small = y .small;
+        floats = y .floats;
+        counts = y .counts;
+        faces-are = y .faces-are;
+        corners-are = y .corners-are;
+        small = y .small;
       };
 }
 

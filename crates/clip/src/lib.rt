@@ -29,7 +29,15 @@ pub enum Clipped {
 }
 
 // The sides of all corners of a cell.
-fn sign_cell(t: Precision, plane: Plane, src: &[f64], from: usize, sizes: &[u64], j: usize, faces: usize) -> Seen
+fn sign_cell(
+    t: Precision,
+    plane: Plane,
+    src: &[f64],
+    from: usize,
+    sizes: &[u64],
+    j: usize,
+    faces: usize,
+) -> Seen
     requires { ⌜ Given (now src) from (now sizes) j faces ⌝ }
     ensures { λ r. ⌜ seen r ≡ signsOf t plane (cellAt (now (src .entry)) from (countsAt (now (sizes .entry)) j faces)) ⌝ }
 {
