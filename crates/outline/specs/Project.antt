@@ -1,7 +1,7 @@
 -- The corners of a facet in the coordinates of its plane: 34. Definitions only.
-use Prim.Native.Nat.{_-_, _/_}
-use mathlib.Core.List.{List, [], _++_}
-use lib.ListN.{length, take, replicate}
+use Prim.Native.Nat.{ℕ, zero, suc, _+_, _-_, _/_}
+use mathlib.Core.List.{List, [], _∷_, _++_}
+use lib.ListN.{length, take, getD, replicate}
 use lib.Ieee.{Float, nan, binary64, ofBits}
 use Rattle.refusal.specs.declared.Verdict.{Verdict}
 use Rattle.refusal.specs.declared.Verdict.the-variants.{Fine, Refused}
