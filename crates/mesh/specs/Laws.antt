@@ -24,7 +24,8 @@ use Rattle.turns.specs.declared.Turn.the-variants as T
 use Rattle.turns.specs.Turns.{orientationOf}
 use Rattle.outline.specs.declared.Outline.{Outline}
 use Rattle.outline.specs.declared.Outlined.{Outlined}
-use Rattle.outline.specs.Project.{astray, pointAt, pointsAt, facetOf, pointsOf, outline, outlined}
+use Rattle.polygon.specs.Memory.{pointAt, pointsAt}
+use Rattle.outline.specs.Project.{astray, facetOf, pointsOf, outline, outlined}
 use Rattle.outline.specs.Laws.{points-outline, next-point, points-done, length-points}
 use Rattle.ears.specs.declared.Active.{Active}
 use Rattle.ears.specs.declared.Triangle.{Triangle}

@@ -21,7 +21,8 @@ use Rattle.turns.specs.declared.Projected.{Projected}
 use Rattle.outline.specs.declared.Shadow.{Shadow}
 use Rattle.outline.specs.declared.Shadow.the-variants as S
 use Rattle.outline.specs.declared.Outlined.{Outlined}
-use Rattle.outline.specs.Project.{shadowed, shadowOf, shadowBy, projectedOf, pointAt, pointsAt, pointsOf, middle, padded, outline, outlined}
+use Rattle.polygon.specs.Memory.{pointAt, pointsAt}
+use Rattle.outline.specs.Project.{shadowed, shadowOf, shadowBy, projectedOf, pointsOf, middle, padded, outline, outlined}
 
 -- ---- the next of the points of a slice, and the rest
 

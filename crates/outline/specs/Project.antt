@@ -17,6 +17,7 @@ use Rattle.space.specs.declared.Point3.{Point3}
 use Rattle.space.specs.declared.Frame.{Frame}
 use Rattle.space.specs.declared.Plane.{Plane}
 use Rattle.space.specs.Vector.{boxOf}
+use Rattle.polygon.specs.Memory.{pointsAt}
 use Rattle.turns.specs.declared.Projected.{Projected}
 use Rattle.outline.specs.declared.Shadow.{Shadow}
 use Rattle.outline.specs.declared.Shadow.the-variants as S
@@ -61,14 +62,6 @@ projectedOf w q =
     shadowBy (w .frame) (differenceI (boxOf q) (boxOf (w .frame .origin))) (boxOf (w .frame .z)) (inverseOf (dot0 (boxOf (w .frame .z)) (boxOf (w .frame .z))))
 
 -- ---- the corners as they lie in memory, three floats each
-
-abbrev pub pointAt : List Float → ℕ → Point3
-pointAt s i = record { x = getD s i nan; y = getD s (i + 1) nan; z = getD s (i + 2) nan }
-
--- n points from a place on
-unfoldable pub pointsAt : List Float → ℕ → ℕ → List Point3
-pointsAt s i zero = []
-pointsAt s i (suc n) = pointAt s i ∷ pointsAt s (i + 3) n
 
 -- all points of a slice
 abbrev pub facetOf : List Float → List Point3

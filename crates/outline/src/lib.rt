@@ -13,7 +13,8 @@ ghost use mathlib.Core.List.{[]};
 ghost use Prim.Native.Nat.{_+_, _*_, _/_, _≤_};
 ghost use lib.ListN.{length};
 ghost use Rattle.refusal.specs.Outcome.{refused, each};
-ghost use Rattle.outline.specs.Project.{handed, basisOf, shadowed, shadowOf, shadowBy, projectedOf, pointAt, facetOf, outline, outlined};
+ghost use Rattle.polygon.specs.Memory.{pointAt};
+ghost use Rattle.outline.specs.Project.{handed, basisOf, shadowed, shadowOf, shadowBy, projectedOf, facetOf, outline, outlined};
 
 pub struct Outline {
     pub at: [Projected; 128],

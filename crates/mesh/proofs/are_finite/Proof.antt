@@ -5,7 +5,7 @@ use Prim.Native.Nat.{_*_, _-_, _/_, _≤_}
 use lib.ListN.{length}
 use Rattle.lists.specs.Walks.{all}
 use Rattle.space.specs.Vector.{finitePoint}
-use Rattle.outline.specs.Project.{pointsAt}
+use Rattle.polygon.specs.Memory.{pointsAt}
 use Rattle.mesh.specs.Laws.{finite-start, finite-go, finite-end}
 use Rattle.mesh.proofs.are_finite.Statement.{statement}
 use Rattle.mesh.proofs.are_finite.Tie as tie

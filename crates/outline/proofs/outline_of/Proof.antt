@@ -9,7 +9,8 @@ use Rattle.refusal.specs.Outcome.{each}
 use Rattle.space.specs.declared.Plane.{Plane}
 use Rattle.turns.specs.declared.Projected.{Projected}
 use Rattle.outline.specs.declared.Outline.{Outline}
-use Rattle.outline.specs.Project.{projectedOf, pointsAt, padded, outlined}
+use Rattle.polygon.specs.Memory.{pointsAt}
+use Rattle.outline.specs.Project.{projectedOf, padded, outlined}
 use Rattle.outline.specs.Laws.{left, project-start, project-go, project-stop, project-end, stored, outlined-is}
 use Rattle.outline.proofs.outline_of.Statement.{statement}
 use Rattle.outline.proofs.outline_of.Tie as tie
