@@ -154,14 +154,8 @@ linking-end ends all head₀ next₀ head next e h q =
     record { chains = λ i l. subst (λ k. Chain next all (getD head i 0) (placesOf ends i 0 k)) y (r .chains i l); sizeH = r .sizeH; sizeN = r .sizeN }
 
 -- what a turn asks
-pub linking-read : (ends : List ℕ) (all n e : ℕ) (head₀ next₀ head next : List ℕ) → Inside ends all n → 0 < e → Linking ends all head₀ next₀ head next e → e - 1 < length ends
-linking-read ends all n e head₀ next₀ head next s h q = omega (arith, s .upto, q .upto)
-
 pub linking-node : (ends : List ℕ) (all e : ℕ) (head₀ next₀ head next : List ℕ) → Inside ends all (length head₀) → 0 < e → Linking ends all head₀ next₀ head next e → getD ends (e - 1) 0 < length head
 linking-node ends all e head₀ next₀ head next s h q = omega (arith, s .below (e - 1) (omega (arith, q .upto)), q .sizeH)
-
-pub linking-room : (ends : List ℕ) (all e : ℕ) (head₀ next₀ head next : List ℕ) → all ≤ length next₀ → 0 < e → Linking ends all head₀ next₀ head next e → e - 1 < length next
-linking-room ends all e head₀ next₀ head next s h q = omega (arith, q .upto, q .sizeN)
 
 -- ---- the neighbours of a node lie opposite its places
 

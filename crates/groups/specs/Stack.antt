@@ -140,11 +140,5 @@ mid-across ends all head next n e q h = omega (arith, q .inside .even, q .inside
 pub mid-node : (ends : List ℕ) (all : ℕ) (head next : List ℕ) (i : ℕ) (s₀ w₀ : List ℕ) (t₀ : ℕ) (s w : List ℕ) (t e : ℕ) → Net ends all head next (length s₀) → e < all → Mid ends all next i s₀ w₀ t₀ s w t e → getD ends (opposite e) 0 < length s
 mid-node ends all head next i s₀ w₀ t₀ s w t e q h m = omega (arith, q .inside .below (opposite e) (omega (arith, q .inside .even)), m .flags)
 
-pub mid-next : (ends : List ℕ) (all : ℕ) (head next : List ℕ) (n e : ℕ) → Net ends all head next n → e < all → e < length next
-mid-next ends all head next n e q h = omega (arith, q .nexts)
-
-pub mid-add : (ends : List ℕ) (all : ℕ) (head next : List ℕ) (n e : ℕ) → Net ends all head next n → e < all → e + 1 ≤ length ends
-mid-add ends all head next n e q h = omega (arith, q .inside .upto)
-
 pub linked-net : (ends : List ℕ) (all : ℕ) (head₀ next₀ head next : List ℕ) (n : ℕ) → Inside ends all (length head₀) → all ≤ length next₀ → length head₀ ≡ n → Linked ends all head₀ next₀ head next → Net ends all head next n
 linked-net ends all head₀ next₀ head next n s r e q = record { inside = subst (Inside ends all) e s; chains = λ i h. q .chains i (omega (arith, q .sizeH, e)); heads = omega (arith, q .sizeH, e); nexts = omega (arith, q .sizeN) }

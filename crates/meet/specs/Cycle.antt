@@ -7,12 +7,12 @@ use Prim.Native.Nat.{ℕ, zero, suc, _+_, _-_, _%_, _≤_, _<_}
 use native.Mathlib.Omega.{arith}
 use native.Mathlib.Numerals.{add-one}
 use native.Mathlib.Nat.{mod-lt}
-use lib.ListN.{length, getD, take, drop, length-map}
+use lib.ListN.{length, getD, take, drop}
 use lib.Seq.{slice, drop-cons, drop-length, getD-drop, getD-take, length-slice}
 use lib.Dec.{T, eqb, eqb→eq, eqb-refl}
 use Rattle.sums.specs.Sum.{Each}
 use Rattle.sums.specs.Keys.{range}
-use Rattle.sums.specs.KeyLaws.{each-map, getD-map-lt}
+use Rattle.sums.specs.KeyLaws.{each-map, length-range, getD-range}
 use Rattle.bodies.specs.Fusing.{every, some, turnedBy, sameCycle}
 
 -- two rows of a slice
@@ -23,17 +23,6 @@ pub record Rows (v : List ℕ) (a ae b be : ℕ) : Type 0 where
   pub bl : be ≤ length v
 
 -- ---- tests of the numbers below n
-
-length-range : (n : ℕ) → length (range n) ≡ n
-unfolding range
-length-range zero = refl
-length-range (suc n) = ap suc (length-map (range n) suc ∙ length-range n)
-
-getD-range : (n i : ℕ) → i < n → getD (range n) i 0 ≡ i
-unfolding range
-getD-range zero i h = absurd (omega arith)
-getD-range (suc n) zero h = refl
-getD-range (suc n) (suc i) h = getD-map-lt suc (range n) 0 0 i (omega (arith, length-range n)) ∙ ap suc (getD-range n i (omega arith))
 
 range-next : (n i : ℕ) → i < n → drop i (range n) ≡ i ∷ drop (i + 1) (range n)
 range-next n i h = drop-cons (range n) i 0 (omega (arith, length-range n)) ∙ ap₂ (λ x k. x ∷ drop k (range n)) (getD-range n i h) (sym (add-one i))
