@@ -1,0 +1,298 @@
+-- Laws of the writer's loops, in the words of the code.
+use mathlib.Core.Path.{_≡_, refl, sym, ap, _∙_, subst}
+use mathlib.Core.List.{List, [], _∷_, _++_, map, append-assoc, append-nil}
+use Prim.Native.Nat.{ℕ, zero, suc, _+_, _*_, _≤_, _<_}
+use native.Mathlib.Omega.{arith}
+use native.Mathlib.Numerals.{add-one}
+use lib.ListN.{length, drop, getD, set, length-append}
+use lib.Seq.{sets, length-sets}
+use lib.Ieee.{Float}
+use Rattle.space.specs.declared.Point3.{Point3}
+use Rattle.space.specs.declared.Precision.{Precision}
+use Rattle.space.specs.Shapes.{Solid}
+use Rattle.words.specs.Little.{digits, floatBytes}
+use Rattle.words.specs.Laws.{length-digits, length-float}
+use Rattle.polygon.specs.Memory.{pointAt, pointsAt}
+use Rattle.room.specs.Rooms.{countsAt}
+use Rattle.room.specs.Laws.{sets-append, next-point, points-done, next-count, counts-done, length-pointsAt}
+use Rattle.job.specs.declared.Operation.{Operation}
+use Rattle.job.specs.Bytes.{recordsTo, facesTo, solidTo, jobBytes, operationByte}
+use Rattle.job.specs.Written.{precisionBytes, pointBytes, solidBodies, jobBodies}
+use Rattle.pack.specs.Flat.{precisionRecord, pointRecord, cornerRecord, operationRecord}
+use Rattle.solids.specs.Frames.{facesAt, Placing}
+use Rattle.solids.specs.Faces.{length-face, placing-le}
+use Rattle.writer.specs.Writing.{solidIn, Lent, facesBytes, solidBytes, writtenJob}
+
+-- ---- records before other bytes
+
+records-to : (k : ℕ) (bs : List (List ℕ)) (s : List ℕ) → recordsTo k bs s ≡ recordsTo k bs [] ++ s
+unfolding recordsTo
+records-to k [] s = refl
+records-to k (b ∷ bs) s = ap (λ r. k ∷ b ++ r) (records-to k bs s) ∙ ap (λ r. k ∷ r) (sym (append-assoc b (recordsTo k bs []) s))
+
+faces-to : (fs : List (List (List ℕ))) (s : List ℕ) → facesTo fs s ≡ facesTo fs [] ++ s
+unfolding facesTo
+faces-to [] s = refl
+faces-to (c ∷ fs) s =
+    ap (λ r. 3 ∷ recordsTo 4 c r) (faces-to fs s)
+    ∙ ap (λ r. 3 ∷ r) (records-to 4 c (facesTo fs [] ++ s) ∙ sym (append-assoc (recordsTo 4 c []) (facesTo fs []) s) ∙ ap (λ r. r ++ s) (sym (records-to 4 c (facesTo fs []))))
+
+solid-to : (s : Solid) (r : List ℕ) → solidTo (solidBodies s) r ≡ solidBytes s ++ r
+unfolding solidTo solidBytes
+solid-to s r =
+    let p = solidBodies s .points in
+    let f = solidBodies s .faces in
+    let e : facesTo f (5 ∷ r) ≡ facesTo f (5 ∷ []) ++ r = faces-to f (5 ∷ r) ∙ sym (append-assoc (facesTo f []) (5 ∷ []) r) ∙ ap (λ x. x ++ r) (sym (faces-to f (5 ∷ []))) in
+    ap (recordsTo 2 p) e
+    ∙ records-to 2 p (facesTo f (5 ∷ []) ++ r)
+    ∙ sym (append-assoc (recordsTo 2 p []) (facesTo f (5 ∷ [])) r)
+    ∙ ap (λ x. x ++ r) (sym (records-to 2 p (facesTo f (5 ∷ []))))
+
+-- ---- lengths
+
+length-point : (p : Point3) → length (pointBytes p) ≡ 24
+unfolding pointBytes
+length-point p =
+    omega (arith, length-append (floatBytes (p .x)) (floatBytes (p .y) ++ floatBytes (p .z)), length-append (floatBytes (p .y)) (floatBytes (p .z)), length-float (p .x), length-float (p .y), length-float (p .z))
+
+length-points : (l : List Point3) → length (recordsTo 2 (map pointBytes l) []) ≡ 25 * length l
+unfolding recordsTo
+length-points [] = refl
+length-points (p ∷ l) = omega (arith, length-append (pointBytes p) (recordsTo 2 (map pointBytes l) []), length-point p, length-points l)
+
+pub length-corners : (l : List ℕ) → length (recordsTo 4 (map (digits 2) l) []) ≡ 3 * length l
+unfolding recordsTo
+length-corners [] = refl
+length-corners (i ∷ l) = omega (arith, length-append (digits 2 i) (recordsTo 4 (map (digits 2) l) []), length-digits 2 i, length-corners l)
+
+-- ---- points
+
+pub record Pointwise (s : List Float) (m : ℕ) (out₀ : List ℕ) (at : ℕ) (out : List ℕ) (i : ℕ) : Type 0 where
+  pub within : i ≤ m
+  pub same : length out ≡ length out₀
+  pub whole : sets out (at + 25 * i) (recordsTo 2 (map pointBytes (drop i (pointsAt s 0 m))) []) ≡ sets out₀ at (recordsTo 2 (map pointBytes (pointsAt s 0 m)) [])
+
+pub points-start : (s : List Float) (m : ℕ) (out : List ℕ) (at : ℕ) → Pointwise s m out at out 0
+points-start s m out at =
+    let e : at + 25 * 0 ≡ at = omega arith in
+    record { within = omega arith; same = refl; whole = ap (λ k. sets out k (recordsTo 2 (map pointBytes (pointsAt s 0 m)) [])) e }
+
+pub points-turn : {s : List Float} {m : ℕ} {out₀ : List ℕ} {at : ℕ} {out : List ℕ} {i : ℕ} (q : Point3) (out′ : List ℕ) → Pointwise s m out₀ at out i → i < m → q ≡ pointAt s (3 * i) →
+    out′ ≡ sets out (at + 25 * i) (pointRecord q) → Pointwise s m out₀ at out′ (i + 1)
+unfolding recordsTo pointRecord
+points-turn {s} {m} {out₀} {at} {out} {i} q out′ v h e w =
+    let l = pointsAt s 0 m in
+    let rest = recordsTo 2 (map pointBytes (drop (i + 1) (pointsAt s 0 m))) [] in
+    let k : at + 25 * (i + 1) ≡ at + 25 * i + length (2 ∷ pointBytes q) = omega (arith, length-point q) in
+    let d : drop i (pointsAt s 0 m) ≡ q ∷ drop (i + 1) (pointsAt s 0 m) =
+    next-point s 0 m i h ∙ ap (λ x. x ∷ drop (i + 1) (pointsAt s 0 m)) (ap (pointAt s) (omega arith) ∙ sym e) in
+    record {
+      within = omega arith;
+      same = ap length w ∙ length-sets out (at + 25 * i) (2 ∷ pointBytes q) ∙ v .same;
+      whole =
+          ap (λ x. sets x (at + 25 * (i + 1)) rest) w
+          ∙ ap (λ x. sets (sets out (at + 25 * i) (2 ∷ pointBytes q)) x rest) k
+          ∙ sets-append out (at + 25 * i) (2 ∷ pointBytes q) rest
+          ∙ ap (λ x. sets out (at + 25 * i) (recordsTo 2 (map pointBytes x) [])) (sym d)
+          ∙ v .whole;
+    }
+
+pub points-end : {s : List Float} {m : ℕ} {out₀ : List ℕ} {at : ℕ} {out : List ℕ} {i : ℕ} → Pointwise s m out₀ at out i → m ≤ i → out ≡ sets out₀ at (recordsTo 2 (map pointBytes (pointsAt s 0 m)) [])
+unfolding recordsTo
+points-end {s} {m} {out₀} {at} {out} {i} v h = sym (ap (λ x. sets out (at + 25 * i) (recordsTo 2 (map pointBytes x) [])) (points-done s 0 m i h)) ∙ v .whole
+
+-- ---- the corners of a face
+
+pub record Cornerwise (l : List ℕ) (k n : ℕ) (out₀ : List ℕ) (at : ℕ) (out : List ℕ) (i : ℕ) : Type 0 where
+  pub within : i ≤ n
+  pub same : length out ≡ length out₀
+  pub whole : sets out (at + 3 * i) (recordsTo 4 (map (digits 2) (drop i (countsAt l k n))) []) ≡ sets out₀ at (recordsTo 4 (map (digits 2) (countsAt l k n)) [])
+
+pub corners-start : (l : List ℕ) (k n : ℕ) (out : List ℕ) (at : ℕ) → Cornerwise l k n out at out 0
+corners-start l k n out at =
+    let e : at + 3 * 0 ≡ at = omega arith in
+    record { within = omega arith; same = refl; whole = ap (λ x. sets out x (recordsTo 4 (map (digits 2) (countsAt l k n)) [])) e }
+
+pub corners-turn : {l : List ℕ} {k n : ℕ} {out₀ : List ℕ} {at : ℕ} {out : List ℕ} {i : ℕ} (out′ : List ℕ) → Cornerwise l k n out₀ at out i → i < n → k + n ≤ length l →
+    out′ ≡ sets out (at + 3 * i) (cornerRecord (getD l (k + i) 0)) → Cornerwise l k n out₀ at out′ (i + 1)
+unfolding recordsTo cornerRecord
+corners-turn {l} {k} {n} {out₀} {at} {out} {i} out′ v h b w =
+    let x = getD l (k + i) 0 in
+    let rest = recordsTo 4 (map (digits 2) (drop (i + 1) (countsAt l k n))) [] in
+    let j : at + 3 * (i + 1) ≡ at + 3 * i + length (4 ∷ digits 2 (getD l (k + i) 0)) = omega (arith, length-digits 2 (getD l (k + i) 0)) in
+    record {
+      within = omega arith;
+      same = ap length w ∙ length-sets out (at + 3 * i) (4 ∷ digits 2 x) ∙ v .same;
+      whole =
+          ap (λ y. sets y (at + 3 * (i + 1)) rest) w
+          ∙ ap (λ y. sets (sets out (at + 3 * i) (4 ∷ digits 2 x)) y rest) j
+          ∙ sets-append out (at + 3 * i) (4 ∷ digits 2 x) rest
+          ∙ ap (λ y. sets out (at + 3 * i) (recordsTo 4 (map (digits 2) y) [])) (sym (next-count l k n i h b))
+          ∙ v .whole;
+    }
+
+pub corners-end : {l : List ℕ} {k n : ℕ} {out₀ : List ℕ} {at : ℕ} {out : List ℕ} {i : ℕ} → Cornerwise l k n out₀ at out i → n ≤ i → out ≡ sets out₀ at (recordsTo 4 (map (digits 2) (countsAt l k n)) [])
+unfolding recordsTo
+corners-end {l} {k} {n} {out₀} {at} {out} {i} v h = sym (ap (λ x. sets out (at + 3 * i) (recordsTo 4 (map (digits 2) x) [])) (counts-done l k n i h)) ∙ v .whole
+
+-- ---- faces
+
+abbrev ahead : List ℕ → List ℕ → ℕ → ℕ → ℕ → List (List ℕ)
+ahead places counts n k j = facesAt places k (drop j (countsAt counts 0 n))
+
+pub record Facewise (places counts : List ℕ) (n : ℕ) (out₀ : List ℕ) (at : ℕ) (out : List ℕ) (k o j : ℕ) : Type 0 where
+  pub within : j ≤ n
+  pub same : length out ≡ length out₀
+  pub left : Placing (drop j (countsAt counts 0 n)) k (length places)
+  pub place : o + length (facesBytes (facesAt places k (drop j (countsAt counts 0 n)))) ≡ at + length (facesBytes (facesAt places 0 (countsAt counts 0 n)))
+  pub whole : sets out o (facesBytes (facesAt places k (drop j (countsAt counts 0 n)))) ≡ sets out₀ at (facesBytes (facesAt places 0 (countsAt counts 0 n)))
+
+pub faces-start : (places counts : List ℕ) (n : ℕ) (out : List ℕ) (at : ℕ) → Lent places counts n → Facewise places counts n out at out 0 at 0
+faces-start places counts n out at l = record { within = omega arith; same = refl; left = l .placing; place = refl; whole = refl }
+
+-- the face at hand, and those behind it
+module _ {places counts : List ℕ} {n : ℕ} {out₀ : List ℕ} {at : ℕ} {out : List ℕ} {k o j : ℕ} (v : Facewise places counts n out₀ at out k o j) (h : j < n) (few : n ≤ length counts) where
+  abbrev size : ℕ
+  size = getD counts j 0
+
+  abbrev rest : List (List ℕ)
+  rest = facesAt places (k + getD counts j 0) (drop (j + 1) (countsAt counts 0 n))
+
+  abbrev face : List ℕ
+  face = 3 ∷ recordsTo 4 (map (digits 2) (countsAt places k (getD counts j 0))) []
+
+  sizes : drop j (countsAt counts 0 n) ≡ getD counts j 0 ∷ drop (j + 1) (countsAt counts 0 n)
+  sizes = next-count counts 0 n j h (omega arith) ∙ ap (λ i. getD counts i 0 ∷ drop (j + 1) (countsAt counts 0 n)) (omega arith)
+
+  left-after : Placing (drop (j + 1) (countsAt counts 0 n)) (k + getD counts j 0) (length places)
+  unfolding Placing
+  left-after = subst (λ ns. Placing ns k (length places)) sizes (v .left)
+
+  pub face-fits : k + getD counts j 0 ≤ length places
+  face-fits = placing-le _ _ _ left-after
+
+  face-length : length face ≡ 1 + 3 * getD counts j 0
+  face-length = omega (arith, length-corners (countsAt places k (getD counts j 0)), length-face places k (getD counts j 0) face-fits)
+
+  bytes : facesBytes (facesAt places k (drop j (countsAt counts 0 n))) ≡ face ++ facesBytes rest
+  unfolding facesBytes facesAt facesTo
+  bytes = ap (λ ns. facesTo (map (map (digits 2)) (facesAt places k ns)) []) sizes ∙ ap (λ x. 3 ∷ x) (records-to 4 (map (digits 2) (countsAt places k (getD counts j 0))) (facesBytes rest))
+
+  pub face-inside : at + length (facesBytes (facesAt places 0 (countsAt counts 0 n))) ≤ length out₀ → o + 1 + 3 * getD counts j 0 ≤ length out
+  face-inside b = omega (arith, b, v .place, v .same, ap length bytes, length-append face (facesBytes rest), face-length)
+
+  pub faces-turn : (out′ : List ℕ) → out′ ≡ sets out o face → Facewise places counts n out₀ at out′ (k + getD counts j 0) (o + (1 + 3 * getD counts j 0)) (j + 1)
+  faces-turn out′ w =
+      let e : o + (1 + 3 * getD counts j 0) ≡ o + length face = omega (arith, face-length) in
+      record {
+        within = omega arith;
+        same = ap length w ∙ length-sets out o face ∙ v .same;
+        left = left-after;
+        place = omega (arith, v .place, ap length bytes, length-append face (facesBytes rest), face-length);
+        whole = ap (λ x. sets x (o + (1 + 3 * getD counts j 0)) (facesBytes rest)) w ∙ ap (λ i. sets (sets out o face) i (facesBytes rest)) e
+            ∙ sets-append out o face (facesBytes rest) ∙ ap (sets out o) (sym bytes) ∙ v .whole;
+      }
+
+pub faces-end : {places counts : List ℕ} {n : ℕ} {out₀ : List ℕ} {at : ℕ} {out : List ℕ} {k o j : ℕ} → Facewise places counts n out₀ at out k o j → n ≤ j →
+    (o ≡ at + length (facesBytes (facesAt places 0 (countsAt counts 0 n)))) × (out ≡ sets out₀ at (facesBytes (facesAt places 0 (countsAt counts 0 n))))
+unfolding facesBytes facesAt facesTo
+faces-end {places} {counts} {n} {out₀} {at} {out} {k} {o} {j} v h =
+    let e : facesBytes (facesAt places k (drop j (countsAt counts 0 n))) ≡ [] = ap (λ ns. facesBytes (facesAt places k ns)) (counts-done counts 0 n j h) in
+    (omega (arith, v .place, ap length e), sym (ap (sets out o) e) ∙ v .whole)
+
+-- ---- a solid, and a job
+
+length-solid : (s : Solid) → length (solidBytes s) ≡ 25 * length (s .points) + length (facesBytes (s .faces)) + 1
+unfolding solidBytes solidTo solidBodies facesBytes
+length-solid s =
+    let f = map (map (digits 2)) (s .faces) in
+    omega (
+      arith,
+      ap length (records-to 2 (map pointBytes (s .points)) (facesTo f (5 ∷ []))),
+      length-append (recordsTo 2 (map pointBytes (s .points)) []) (facesTo f (5 ∷ [])),
+      length-points (s .points),
+      ap length (faces-to f (5 ∷ [])),
+      length-append (facesTo f []) (5 ∷ []),
+    )
+
+pub face-stored : (out a b : List ℕ) (at : ℕ) (l : List ℕ) → a ≡ set out at 3 → b ≡ sets a (at + 1) l → b ≡ sets out at (3 ∷ l)
+face-stored out a b at l e g = g ∙ ap (λ x. sets x (at + 1) l) e ∙ ap (λ k. sets (set out at 3) k l) (add-one at)
+
+-- the places of a solid's records
+module _ (points : List Float) (m : ℕ) (places counts : List ℕ) (n : ℕ) where
+  abbrev made : Solid
+  made = solidIn points m places counts n
+
+  abbrev faces : List ℕ
+  faces = facesBytes (facesAt places 0 (countsAt counts 0 n))
+
+  abbrev dots : List ℕ
+  dots = recordsTo 2 (map pointBytes (pointsAt points 0 m)) []
+
+  size-solid : length (solidBytes made) ≡ 25 * m + length faces + 1
+  size-solid = omega (arith, length-solid made, length-pointsAt points 0 m)
+
+  pub solid-room : (at k : ℕ) → at + length (solidBytes made) ≤ k → at + 25 * m + length faces + 1 ≤ k
+  solid-room at k h = omega (arith, h, size-solid)
+
+  pub solid-end : (at e : ℕ) → e ≡ at + 25 * m + length faces → e + 1 ≡ at + length (solidBytes made)
+  solid-end at e h = omega (arith, h, size-solid)
+
+  solid-parts : solidBytes made ≡ dots ++ (faces ++ (5 ∷ []))
+  unfolding solidBytes solidTo solidBodies facesBytes
+  solid-parts =
+      let f = map (map (digits 2)) (facesAt places 0 (countsAt counts 0 n)) in
+      records-to 2 (map pointBytes (pointsAt points 0 m)) (facesTo f (5 ∷ [])) ∙ ap (λ x. dots ++ x) (faces-to f (5 ∷ []))
+
+  pub solid-stored : (out a b : List ℕ) (at e : ℕ) → a ≡ sets out at dots → b ≡ sets a (at + 25 * m) faces → e ≡ at + 25 * m + length faces → set b e 5 ≡ sets out at (solidBytes made)
+  solid-stored out a b at e p q h =
+      let k : at + 25 * m ≡ at + length dots = omega (arith, length-points (pointsAt points 0 m), length-pointsAt points 0 m) in
+      let g : e ≡ at + 25 * m + length faces = h in
+      let i : at + 25 * m + length faces ≡ at + length (dots ++ faces) = omega (arith, length-append dots faces, k) in
+      ap (λ x. sets x e (5 ∷ [])) (q ∙ ap (λ x. sets x (at + 25 * m) faces) p ∙ ap (λ x. sets (sets out at dots) x faces) k ∙ sets-append out at dots faces)
+      ∙ ap (λ x. sets (sets out at (dots ++ faces)) x (5 ∷ [])) (g ∙ i)
+      ∙ sets-append out at (dots ++ faces) (5 ∷ [])
+      ∙ ap (sets out at) (append-assoc dots faces (5 ∷ []) ∙ sym solid-parts)
+
+-- the places of a job's records
+module _ (t : Precision) (o : Operation) (a b : Solid) where
+  length-precision : length (precisionRecord t) ≡ 17
+  unfolding precisionRecord precisionBytes
+  length-precision = omega (arith, length-append (floatBytes (t .linear)) (floatBytes (t .local)), length-float (t .linear), length-float (t .local))
+
+  job-parts : writtenJob t o a b ≡ precisionRecord t ++ (solidBytes a ++ (solidBytes b ++ operationRecord o))
+  unfolding writtenJob jobBytes jobBodies precisionRecord operationRecord
+  job-parts =
+      ap (λ x. 1 ∷ precisionBytes t ++ x) (solid-to a (solidTo (solidBodies b) (6 ∷ operationByte o ∷ [])) ∙ ap (λ x. solidBytes a ++ x) (solid-to b (6 ∷ operationByte o ∷ [])))
+
+  size-job : length (writtenJob t o a b) ≡ 17 + length (solidBytes a) + length (solidBytes b) + 2
+  unfolding operationRecord
+  size-job =
+      omega (
+        arith,
+        ap length job-parts,
+        length-append (precisionRecord t) (solidBytes a ++ (solidBytes b ++ operationRecord o)),
+        length-append (solidBytes a) (solidBytes b ++ operationRecord o),
+        length-append (solidBytes b) (operationRecord o),
+        length-precision,
+      )
+
+  pub job-room : (k : ℕ) → length (writtenJob t o a b) ≤ k → 17 + length (solidBytes a) + length (solidBytes b) + 2 ≤ k
+  job-room k h = omega (arith, h, size-job)
+
+  pub job-end : (f s : ℕ) → f ≡ 17 + length (solidBytes a) → s ≡ f + length (solidBytes b) → s + 2 ≡ length (writtenJob t o a b)
+  job-end f s e g = omega (arith, e, g, size-job)
+
+  pub job-stored : (out p x y z : List ℕ) (f s : ℕ) → p ≡ sets out 0 (precisionRecord t) → x ≡ sets p 17 (solidBytes a) → f ≡ 17 + length (solidBytes a) →
+      y ≡ sets x f (solidBytes b) → s ≡ f + length (solidBytes b) → z ≡ sets y s (operationRecord o) → z ≡ sets out 0 (writtenJob t o a b)
+  job-stored out p x y z f s e1 e2 e3 e4 e5 e6 =
+      let P = precisionRecord t in
+      let k : 17 ≡ 0 + length P = omega (arith, length-precision) in
+      let g2 : x ≡ sets out 0 (P ++ solidBytes a) = e2 ∙ ap (λ u. sets u 17 (solidBytes a)) e1 ∙ ap (λ i. sets (sets out 0 P) i (solidBytes a)) k ∙ sets-append out 0 P (solidBytes a) in
+      let k3 : f ≡ 0 + length (P ++ solidBytes a) = omega (arith, e3, k, length-append P (solidBytes a)) in
+      let g4 : y ≡ sets out 0 ((P ++ solidBytes a) ++ solidBytes b) =
+      e4 ∙ ap (λ u. sets u f (solidBytes b)) g2 ∙ ap (λ i. sets (sets out 0 (P ++ solidBytes a)) i (solidBytes b)) k3 ∙ sets-append out 0 (P ++ solidBytes a) (solidBytes b) in
+      let k5 : s ≡ 0 + length ((P ++ solidBytes a) ++ solidBytes b) = omega (arith, e5, k3, length-append (P ++ solidBytes a) (solidBytes b)) in
+      e6 ∙ ap (λ u. sets u s (operationRecord o)) g4 ∙ ap (λ i. sets (sets out 0 ((P ++ solidBytes a) ++ solidBytes b)) i (operationRecord o)) k5
+      ∙ sets-append out 0 ((P ++ solidBytes a) ++ solidBytes b) (operationRecord o)
+      ∙ ap (sets out 0) (append-assoc (P ++ solidBytes a) (solidBytes b) (operationRecord o) ∙ append-assoc P (solidBytes a) (solidBytes b ++ operationRecord o) ∙ sym job-parts)
