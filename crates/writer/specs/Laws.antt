@@ -12,15 +12,16 @@ use Rattle.space.specs.declared.Precision.{Precision}
 use Rattle.space.specs.Shapes.{Solid}
 use Rattle.words.specs.Little.{digits, floatBytes}
 use Rattle.words.specs.Laws.{length-digits, length-float}
-use Rattle.polygon.specs.Memory.{pointAt, pointsAt}
+use Rattle.polygon.specs.Memory.{pointsAt}
 use Rattle.room.specs.Rooms.{countsAt}
-use Rattle.room.specs.Laws.{sets-append, next-point, points-done, next-count, counts-done, length-pointsAt}
+use Rattle.room.specs.Laws.{sets-append, next-count, counts-done, length-pointsAt}
 use Rattle.job.specs.declared.Operation.{Operation}
 use Rattle.job.specs.Bytes.{recordsTo, facesTo, solidTo, jobBytes, operationByte}
 use Rattle.job.specs.Written.{precisionBytes, pointBytes, solidBodies, jobBodies}
 use Rattle.pack.specs.Flat.{precisionRecord, pointRecord, cornerRecord, operationRecord}
 use Rattle.solids.specs.Frames.{facesAt, Placing}
 use Rattle.solids.specs.Faces.{length-face, placing-le}
+use Rattle.writer.specs.Rows.{row, length-row, PointRow, points-end, NumberRow, numbers-end}
 use Rattle.writer.specs.Writing.{solidIn, Lent, facesBytes, solidBytes, writtenJob}
 
 -- ---- records before other bytes
@@ -50,90 +51,44 @@ solid-to s r =
 
 -- ---- lengths
 
-length-point : (p : Point3) → length (pointBytes p) ≡ 24
+pub length-point : (p : Point3) → length (pointBytes p) ≡ 24
 unfolding pointBytes
 length-point p =
     omega (arith, length-append (floatBytes (p .x)) (floatBytes (p .y) ++ floatBytes (p .z)), length-append (floatBytes (p .y)) (floatBytes (p .z)), length-float (p .x), length-float (p .y), length-float (p .z))
 
+-- ---- records of one kind are a row
+
+points-row : (l : List Point3) → row pointRecord l ≡ recordsTo 2 (map pointBytes l) []
+unfolding row recordsTo pointRecord
+points-row [] = refl
+points-row (p ∷ l) = ap (λ r. 2 ∷ pointBytes p ++ r) (points-row l)
+
+corners-row : (l : List ℕ) → row cornerRecord l ≡ recordsTo 4 (map (digits 2) l) []
+unfolding row recordsTo cornerRecord
+corners-row [] = refl
+corners-row (i ∷ l) = ap (λ r. 4 ∷ digits 2 i ++ r) (corners-row l)
+
+pub length-pointRecord : (p : Point3) → length (pointRecord p) ≡ 25
+unfolding pointRecord
+length-pointRecord p = omega (arith, length-point p)
+
+pub length-cornerRecord : (i : ℕ) → length (cornerRecord i) ≡ 3
+unfolding cornerRecord
+length-cornerRecord i = omega (arith, length-digits 2 i)
+
+pub points-written : {s : List Float} {m : ℕ} {out₀ : List ℕ} {at : ℕ} {out : List ℕ} {i : ℕ} → PointRow pointRecord 25 s 0 m out₀ at out i → m ≤ i →
+    out ≡ sets out₀ at (recordsTo 2 (map pointBytes (pointsAt s 0 m)) [])
+points-written {s} {m} {out₀} {at} v h = points-end pointRecord 25 v h ∙ ap (sets out₀ at) (points-row (pointsAt s 0 m))
+
+pub corners-written : {l : List ℕ} {k n : ℕ} {out₀ : List ℕ} {at : ℕ} {out : List ℕ} {i : ℕ} → NumberRow cornerRecord 3 l k n out₀ at out i → n ≤ i →
+    out ≡ sets out₀ at (recordsTo 4 (map (digits 2) (countsAt l k n)) [])
+corners-written {l} {k} {n} {out₀} {at} v h = numbers-end cornerRecord 3 v h ∙ ap (sets out₀ at) (corners-row (countsAt l k n))
+
 length-points : (l : List Point3) → length (recordsTo 2 (map pointBytes l) []) ≡ 25 * length l
-unfolding recordsTo
-length-points [] = refl
-length-points (p ∷ l) = omega (arith, length-append (pointBytes p) (recordsTo 2 (map pointBytes l) []), length-point p, length-points l)
+length-points l = sym (ap length (points-row l)) ∙ length-row pointRecord 25 length-pointRecord l
 
-pub length-corners : (l : List ℕ) → length (recordsTo 4 (map (digits 2) l) []) ≡ 3 * length l
-unfolding recordsTo
-length-corners [] = refl
-length-corners (i ∷ l) = omega (arith, length-append (digits 2 i) (recordsTo 4 (map (digits 2) l) []), length-digits 2 i, length-corners l)
-
--- ---- points
-
-pub record Pointwise (s : List Float) (m : ℕ) (out₀ : List ℕ) (at : ℕ) (out : List ℕ) (i : ℕ) : Type 0 where
-  pub within : i ≤ m
-  pub same : length out ≡ length out₀
-  pub whole : sets out (at + 25 * i) (recordsTo 2 (map pointBytes (drop i (pointsAt s 0 m))) []) ≡ sets out₀ at (recordsTo 2 (map pointBytes (pointsAt s 0 m)) [])
-
-pub points-start : (s : List Float) (m : ℕ) (out : List ℕ) (at : ℕ) → Pointwise s m out at out 0
-points-start s m out at =
-    let e : at + 25 * 0 ≡ at = omega arith in
-    record { within = omega arith; same = refl; whole = ap (λ k. sets out k (recordsTo 2 (map pointBytes (pointsAt s 0 m)) [])) e }
-
-pub points-turn : {s : List Float} {m : ℕ} {out₀ : List ℕ} {at : ℕ} {out : List ℕ} {i : ℕ} (q : Point3) (out′ : List ℕ) → Pointwise s m out₀ at out i → i < m → q ≡ pointAt s (3 * i) →
-    out′ ≡ sets out (at + 25 * i) (pointRecord q) → Pointwise s m out₀ at out′ (i + 1)
-unfolding recordsTo pointRecord
-points-turn {s} {m} {out₀} {at} {out} {i} q out′ v h e w =
-    let l = pointsAt s 0 m in
-    let rest = recordsTo 2 (map pointBytes (drop (i + 1) (pointsAt s 0 m))) [] in
-    let k : at + 25 * (i + 1) ≡ at + 25 * i + length (2 ∷ pointBytes q) = omega (arith, length-point q) in
-    let d : drop i (pointsAt s 0 m) ≡ q ∷ drop (i + 1) (pointsAt s 0 m) =
-    next-point s 0 m i h ∙ ap (λ x. x ∷ drop (i + 1) (pointsAt s 0 m)) (ap (pointAt s) (omega arith) ∙ sym e) in
-    record {
-      within = omega arith;
-      same = ap length w ∙ length-sets out (at + 25 * i) (2 ∷ pointBytes q) ∙ v .same;
-      whole =
-          ap (λ x. sets x (at + 25 * (i + 1)) rest) w
-          ∙ ap (λ x. sets (sets out (at + 25 * i) (2 ∷ pointBytes q)) x rest) k
-          ∙ sets-append out (at + 25 * i) (2 ∷ pointBytes q) rest
-          ∙ ap (λ x. sets out (at + 25 * i) (recordsTo 2 (map pointBytes x) [])) (sym d)
-          ∙ v .whole;
-    }
-
-pub points-end : {s : List Float} {m : ℕ} {out₀ : List ℕ} {at : ℕ} {out : List ℕ} {i : ℕ} → Pointwise s m out₀ at out i → m ≤ i → out ≡ sets out₀ at (recordsTo 2 (map pointBytes (pointsAt s 0 m)) [])
-unfolding recordsTo
-points-end {s} {m} {out₀} {at} {out} {i} v h = sym (ap (λ x. sets out (at + 25 * i) (recordsTo 2 (map pointBytes x) [])) (points-done s 0 m i h)) ∙ v .whole
-
--- ---- the corners of a face
-
-pub record Cornerwise (l : List ℕ) (k n : ℕ) (out₀ : List ℕ) (at : ℕ) (out : List ℕ) (i : ℕ) : Type 0 where
-  pub within : i ≤ n
-  pub same : length out ≡ length out₀
-  pub whole : sets out (at + 3 * i) (recordsTo 4 (map (digits 2) (drop i (countsAt l k n))) []) ≡ sets out₀ at (recordsTo 4 (map (digits 2) (countsAt l k n)) [])
-
-pub corners-start : (l : List ℕ) (k n : ℕ) (out : List ℕ) (at : ℕ) → Cornerwise l k n out at out 0
-corners-start l k n out at =
-    let e : at + 3 * 0 ≡ at = omega arith in
-    record { within = omega arith; same = refl; whole = ap (λ x. sets out x (recordsTo 4 (map (digits 2) (countsAt l k n)) [])) e }
-
-pub corners-turn : {l : List ℕ} {k n : ℕ} {out₀ : List ℕ} {at : ℕ} {out : List ℕ} {i : ℕ} (out′ : List ℕ) → Cornerwise l k n out₀ at out i → i < n → k + n ≤ length l →
-    out′ ≡ sets out (at + 3 * i) (cornerRecord (getD l (k + i) 0)) → Cornerwise l k n out₀ at out′ (i + 1)
-unfolding recordsTo cornerRecord
-corners-turn {l} {k} {n} {out₀} {at} {out} {i} out′ v h b w =
-    let x = getD l (k + i) 0 in
-    let rest = recordsTo 4 (map (digits 2) (drop (i + 1) (countsAt l k n))) [] in
-    let j : at + 3 * (i + 1) ≡ at + 3 * i + length (4 ∷ digits 2 (getD l (k + i) 0)) = omega (arith, length-digits 2 (getD l (k + i) 0)) in
-    record {
-      within = omega arith;
-      same = ap length w ∙ length-sets out (at + 3 * i) (4 ∷ digits 2 x) ∙ v .same;
-      whole =
-          ap (λ y. sets y (at + 3 * (i + 1)) rest) w
-          ∙ ap (λ y. sets (sets out (at + 3 * i) (4 ∷ digits 2 x)) y rest) j
-          ∙ sets-append out (at + 3 * i) (4 ∷ digits 2 x) rest
-          ∙ ap (λ y. sets out (at + 3 * i) (recordsTo 4 (map (digits 2) y) [])) (sym (next-count l k n i h b))
-          ∙ v .whole;
-    }
-
-pub corners-end : {l : List ℕ} {k n : ℕ} {out₀ : List ℕ} {at : ℕ} {out : List ℕ} {i : ℕ} → Cornerwise l k n out₀ at out i → n ≤ i → out ≡ sets out₀ at (recordsTo 4 (map (digits 2) (countsAt l k n)) [])
-unfolding recordsTo
-corners-end {l} {k} {n} {out₀} {at} {out} {i} v h = sym (ap (λ x. sets out (at + 3 * i) (recordsTo 4 (map (digits 2) x) [])) (counts-done l k n i h)) ∙ v .whole
+length-corners : (l : List ℕ) → length (recordsTo 4 (map (digits 2) l) []) ≡ 3 * length l
+length-corners l = sym (ap length (corners-row l)) ∙ length-row cornerRecord 3 length-cornerRecord l
 
 -- ---- faces
 

@@ -1,17 +1,19 @@
 use borrow.Author.Needs.{needs}
 use Prim.Native.Nat.{_-_}
-use Rattle.writer.specs.Laws.{Cornerwise, corners-start, corners-turn, corners-end}
+use Rattle.pack.specs.Flat.{cornerRecord}
+use Rattle.writer.specs.Rows.{NumberRow, numbers-start, numbers-turn}
+use Rattle.writer.specs.Laws.{length-cornerRecord, corners-written}
 use Rattle.writer.proofs.write_corners.Statement.{statement}
 use Rattle.writer.proofs.write_corners.Tie as tie
 
 abbrev Inv-loop : tie.InvT-loop
-Inv-loop places k n out₀ at i₀ out i = Cornerwise places k n out₀ at out i
+Inv-loop places k n out₀ at i₀ out i = NumberRow cornerRecord 3 places k n out₀ at out i
 
 abbrev μ-loop : tie.MeasureT-loop
 μ-loop places k n out₀ at i₀ out i = n - i
 
 loop-holds : tie.Need-loop-holds Inv-loop μ-loop
-loop-holds c = corners-start _ _ _ _ _
+loop-holds c = numbers-start _ _ _ _ _ _ _
 
 add-x : tie.Need-add-x Inv-loop μ-loop
 add-x c = search needs
@@ -38,13 +40,13 @@ loop-less : tie.Need-loop-less Inv-loop μ-loop
 loop-less c = search needs
 
 loop-again : tie.Need-loop-again Inv-loop μ-loop
-loop-again c = search (needs, corners-turn)
+loop-again c = search (needs, numbers-turn cornerRecord 3 length-cornerRecord)
 
 same-length : tie.Need-same-length Inv-loop μ-loop
 same-length c = search needs
 
 returns : tie.Need-returns Inv-loop μ-loop
-returns c = search (needs, corners-end)
+returns c = search (needs, corners-written)
 
 pub write-corners-spec : {M : Type 1} → statement M
 write-corners-spec =
