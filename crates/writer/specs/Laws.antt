@@ -19,10 +19,9 @@ use Rattle.job.specs.declared.Operation.{Operation}
 use Rattle.job.specs.Bytes.{recordsTo, facesTo, solidTo, jobBytes, operationByte}
 use Rattle.job.specs.Written.{precisionBytes, pointBytes, solidBodies, jobBodies}
 use Rattle.pack.specs.Flat.{precisionRecord, pointRecord, cornerRecord, operationRecord}
-use Rattle.solids.specs.Frames.{facesAt, Placing}
-use Rattle.solids.specs.Faces.{length-face, placing-le}
-use Rattle.writer.specs.Rows.{row, length-row, PointRow, points-end, NumberRow, numbers-end}
-use Rattle.writer.specs.Writing.{solidIn, Lent, facesBytes, solidBytes, writtenJob}
+use Rattle.solids.specs.Frames.{facesAt}
+use Rattle.writer.specs.Rows.{row, length-row, PointRow, points-end, NumberRow, numbers-end, FaceRow, faces-end}
+use Rattle.writer.specs.Writing.{solidIn, faceRecord, facesBytes, solidBytes, writtenJob}
 
 -- ---- records before other bytes
 
@@ -90,70 +89,31 @@ length-points l = sym (ap length (points-row l)) ∙ length-row pointRecord 25 l
 length-corners : (l : List ℕ) → length (recordsTo 4 (map (digits 2) l) []) ≡ 3 * length l
 length-corners l = sym (ap length (corners-row l)) ∙ length-row cornerRecord 3 length-cornerRecord l
 
--- ---- faces
+-- ---- a face is its opening and its corners
 
-abbrev ahead : List ℕ → List ℕ → ℕ → ℕ → ℕ → List (List ℕ)
-ahead places counts n k j = facesAt places k (drop j (countsAt counts 0 n))
+faces-row : (fs : List (List ℕ)) → row faceRecord fs ≡ facesBytes fs
+unfolding row faceRecord facesBytes facesTo
+faces-row [] = refl
+faces-row (f ∷ fs) = ap (λ r. 3 ∷ recordsTo 4 (map (digits 2) f) [] ++ r) (faces-row fs) ∙ ap (λ r. 3 ∷ r) (sym (records-to 4 (map (digits 2) f) (facesTo (map (map (digits 2)) fs) [])))
 
-pub record Facewise (places counts : List ℕ) (n : ℕ) (out₀ : List ℕ) (at : ℕ) (out : List ℕ) (k o j : ℕ) : Type 0 where
-  pub within : j ≤ n
-  pub same : length out ≡ length out₀
-  pub left : Placing (drop j (countsAt counts 0 n)) k (length places)
-  pub place : o + length (facesBytes (facesAt places k (drop j (countsAt counts 0 n)))) ≡ at + length (facesBytes (facesAt places 0 (countsAt counts 0 n)))
-  pub whole : sets out o (facesBytes (facesAt places k (drop j (countsAt counts 0 n)))) ≡ sets out₀ at (facesBytes (facesAt places 0 (countsAt counts 0 n)))
+pub length-faceRecord : (f : List ℕ) → length (faceRecord f) ≡ 1 + 3 * length f
+unfolding faceRecord
+length-faceRecord f = omega (arith, length-corners f)
 
-pub faces-start : (places counts : List ℕ) (n : ℕ) (out : List ℕ) (at : ℕ) → Lent places counts n → Facewise places counts n out at out 0 at 0
-faces-start places counts n out at l = record { within = omega arith; same = refl; left = l .placing; place = refl; whole = refl }
+pub faces-room : (at m : ℕ) (fs : List (List ℕ)) → at + length (facesBytes fs) ≤ m → at + length (row faceRecord fs) ≤ m
+faces-room at m fs h = omega (arith, h, ap length (faces-row fs))
 
--- the face at hand, and those behind it
-module _ {places counts : List ℕ} {n : ℕ} {out₀ : List ℕ} {at : ℕ} {out : List ℕ} {k o j : ℕ} (v : Facewise places counts n out₀ at out k o j) (h : j < n) (few : n ≤ length counts) where
-  abbrev size : ℕ
-  size = getD counts j 0
-
-  abbrev rest : List (List ℕ)
-  rest = facesAt places (k + getD counts j 0) (drop (j + 1) (countsAt counts 0 n))
-
-  abbrev face : List ℕ
-  face = 3 ∷ recordsTo 4 (map (digits 2) (countsAt places k (getD counts j 0))) []
-
-  sizes : drop j (countsAt counts 0 n) ≡ getD counts j 0 ∷ drop (j + 1) (countsAt counts 0 n)
-  sizes = next-count counts 0 n j h (omega arith) ∙ ap (λ i. getD counts i 0 ∷ drop (j + 1) (countsAt counts 0 n)) (omega arith)
-
-  left-after : Placing (drop (j + 1) (countsAt counts 0 n)) (k + getD counts j 0) (length places)
-  unfolding Placing
-  left-after = subst (λ ns. Placing ns k (length places)) sizes (v .left)
-
-  pub face-fits : k + getD counts j 0 ≤ length places
-  face-fits = placing-le _ _ _ left-after
-
-  face-length : length face ≡ 1 + 3 * getD counts j 0
-  face-length = omega (arith, length-corners (countsAt places k (getD counts j 0)), length-face places k (getD counts j 0) face-fits)
-
-  bytes : facesBytes (facesAt places k (drop j (countsAt counts 0 n))) ≡ face ++ facesBytes rest
-  unfolding facesBytes facesAt facesTo
-  bytes = ap (λ ns. facesTo (map (map (digits 2)) (facesAt places k ns)) []) sizes ∙ ap (λ x. 3 ∷ x) (records-to 4 (map (digits 2) (countsAt places k (getD counts j 0))) (facesBytes rest))
-
-  pub face-inside : at + length (facesBytes (facesAt places 0 (countsAt counts 0 n))) ≤ length out₀ → o + 1 + 3 * getD counts j 0 ≤ length out
-  face-inside b = omega (arith, b, v .place, v .same, ap length bytes, length-append face (facesBytes rest), face-length)
-
-  pub faces-turn : (out′ : List ℕ) → out′ ≡ sets out o face → Facewise places counts n out₀ at out′ (k + getD counts j 0) (o + (1 + 3 * getD counts j 0)) (j + 1)
-  faces-turn out′ w =
-      let e : o + (1 + 3 * getD counts j 0) ≡ o + length face = omega (arith, face-length) in
-      record {
-        within = omega arith;
-        same = ap length w ∙ length-sets out o face ∙ v .same;
-        left = left-after;
-        place = omega (arith, v .place, ap length bytes, length-append face (facesBytes rest), face-length);
-        whole = ap (λ x. sets x (o + (1 + 3 * getD counts j 0)) (facesBytes rest)) w ∙ ap (λ i. sets (sets out o face) i (facesBytes rest)) e
-            ∙ sets-append out o face (facesBytes rest) ∙ ap (sets out o) (sym bytes) ∙ v .whole;
-      }
-
-pub faces-end : {places counts : List ℕ} {n : ℕ} {out₀ : List ℕ} {at : ℕ} {out : List ℕ} {k o j : ℕ} → Facewise places counts n out₀ at out k o j → n ≤ j →
+pub faces-written : {places counts : List ℕ} {n : ℕ} {out₀ : List ℕ} {at : ℕ} {out : List ℕ} {k o j : ℕ} → FaceRow faceRecord places counts n out₀ at out k o j → n ≤ j →
     (o ≡ at + length (facesBytes (facesAt places 0 (countsAt counts 0 n)))) × (out ≡ sets out₀ at (facesBytes (facesAt places 0 (countsAt counts 0 n))))
-unfolding facesBytes facesAt facesTo
-faces-end {places} {counts} {n} {out₀} {at} {out} {k} {o} {j} v h =
-    let e : facesBytes (facesAt places k (drop j (countsAt counts 0 n))) ≡ [] = ap (λ ns. facesBytes (facesAt places k ns)) (counts-done counts 0 n j h) in
-    (omega (arith, v .place, ap length e), sym (ap (sets out o) e) ∙ v .whole)
+faces-written {places} {counts} {n} {out₀} {at} v h =
+    let e = faces-end v h in
+    let r = faces-row (facesAt places 0 (countsAt counts 0 n)) in
+    (e .0 ∙ ap (λ l. at + length l) r, e .1 ∙ ap (sets out₀ at) r)
+
+pub face-stored : (out a b : List ℕ) (at : ℕ) (f : List ℕ) → a ≡ set out at 3 → b ≡ sets a (at + 1) (recordsTo 4 (map (digits 2) f) []) → b ≡ sets out at (faceRecord f)
+unfolding faceRecord
+face-stored out a b at f e g =
+    g ∙ ap (λ x. sets x (at + 1) (recordsTo 4 (map (digits 2) f) [])) e ∙ ap (λ k. sets (set out at 3) k (recordsTo 4 (map (digits 2) f) [])) (add-one at)
 
 -- ---- a solid, and a job
 
@@ -169,9 +129,6 @@ length-solid s =
       ap length (faces-to f (5 ∷ [])),
       length-append (facesTo f []) (5 ∷ []),
     )
-
-pub face-stored : (out a b : List ℕ) (at : ℕ) (l : List ℕ) → a ≡ set out at 3 → b ≡ sets a (at + 1) l → b ≡ sets out at (3 ∷ l)
-face-stored out a b at l e g = g ∙ ap (λ x. sets x (at + 1) l) e ∙ ap (λ k. sets (set out at 3) k l) (add-one at)
 
 -- the places of a solid's records
 module _ (points : List Float) (m : ℕ) (places counts : List ℕ) (n : ℕ) where

@@ -1,5 +1,5 @@
 -- A row of records of one width, written one after another: one law for the points, the corners, the counts.
-use mathlib.Core.Path.{_≡_, refl, sym, ap, _∙_}
+use mathlib.Core.Path.{_≡_, refl, sym, ap, _∙_, subst}
 use mathlib.Core.List.{List, [], _∷_, _++_}
 use Prim.Native.Nat.{ℕ, zero, suc, _+_, _*_, _≤_, _<_}
 use native.Mathlib.Omega.{arith}
@@ -10,7 +10,9 @@ use lib.Ieee.{Float}
 use Rattle.space.specs.declared.Point3.{Point3}
 use Rattle.polygon.specs.Memory.{pointAt, pointsAt}
 use Rattle.room.specs.Rooms.{countsAt}
-use Rattle.room.specs.Laws.{sets-append, next-point, points-done, next-count, counts-done, length-pointsAt}
+use Rattle.room.specs.Laws.{sets-append, next-point, points-done, next-count, counts-done}
+use Rattle.solids.specs.Frames.{facesAt, Placing}
+use Rattle.solids.specs.Faces.{length-face, placing-le}
 
 -- the bytes of all elements, one after another
 unfoldable pub row : {A : Type 0} → (A → List ℕ) → List A → List ℕ
@@ -93,3 +95,60 @@ numbers-turn e w h {l} {k} {n} {out₀} {at} {out} {i} out′ v b c g =
 
 pub numbers-end : (e : ℕ → List ℕ) (w : ℕ) {l : List ℕ} {k n : ℕ} {out₀ : List ℕ} {at : ℕ} {out : List ℕ} {i : ℕ} → NumberRow e w l k n out₀ at out i → n ≤ i → out ≡ sets out₀ at (row e (countsAt l k n))
 numbers-end e w {l} {k} {n} {out₀} {at} {out} {i} v b = rowing-end e w (countsAt l k n) out₀ at out i (v .rowing) (counts-done l k n i b)
+
+-- ---- the faces of a solid, each of its own width: a + b for each corner
+
+pub record FaceRow (e : List ℕ → List ℕ) (places counts : List ℕ) (n : ℕ) (out₀ : List ℕ) (at : ℕ) (out : List ℕ) (k o j : ℕ) : Type 0 where
+  pub within : j ≤ n
+  pub same : length out ≡ length out₀
+  pub left : Placing (drop j (countsAt counts 0 n)) k (length places)
+  pub place : o + length (row e (facesAt places k (drop j (countsAt counts 0 n)))) ≡ at + length (row e (facesAt places 0 (countsAt counts 0 n)))
+  pub whole : sets out o (row e (facesAt places k (drop j (countsAt counts 0 n)))) ≡ sets out₀ at (row e (facesAt places 0 (countsAt counts 0 n)))
+
+pub faces-start : (e : List ℕ → List ℕ) (places counts : List ℕ) (n : ℕ) (out : List ℕ) (at : ℕ) → Placing (countsAt counts 0 n) 0 (length places) → FaceRow e places counts n out at out 0 at 0
+faces-start e places counts n out at l = record { within = omega arith; same = refl; left = l; place = refl; whole = refl }
+
+-- the face at hand, and those behind it
+module _ {e : List ℕ → List ℕ} {places counts : List ℕ} {n : ℕ} {out₀ : List ℕ} {at : ℕ} {out : List ℕ} {k o j : ℕ} (v : FaceRow e places counts n out₀ at out k o j) (h : j < n) (few : n ≤ length counts) where
+  abbrev rest : List (List ℕ)
+  rest = facesAt places (k + getD counts j 0) (drop (j + 1) (countsAt counts 0 n))
+
+  abbrev face : List ℕ
+  face = e (countsAt places k (getD counts j 0))
+
+  sizes : drop j (countsAt counts 0 n) ≡ getD counts j 0 ∷ drop (j + 1) (countsAt counts 0 n)
+  sizes = next-count counts 0 n j h (omega arith) ∙ ap (λ i. getD counts i 0 ∷ drop (j + 1) (countsAt counts 0 n)) (omega arith)
+
+  left-after : Placing (drop (j + 1) (countsAt counts 0 n)) (k + getD counts j 0) (length places)
+  unfolding Placing
+  left-after = subst (λ ns. Placing ns k (length places)) sizes (v .left)
+
+  pub face-fits : k + getD counts j 0 ≤ length places
+  face-fits = placing-le _ _ _ left-after
+
+  pub face-corners : length (countsAt places k (getD counts j 0)) ≡ getD counts j 0
+  face-corners = length-face places k (getD counts j 0) face-fits
+
+  bytes : row e (facesAt places k (drop j (countsAt counts 0 n))) ≡ face ++ row e rest
+  unfolding row facesAt
+  bytes = ap (λ ns. row e (facesAt places k ns)) sizes
+
+  pub face-inside : at + length (row e (facesAt places 0 (countsAt counts 0 n))) ≤ length out₀ → o + length face ≤ length out
+  face-inside b = omega (arith, b, v .place, v .same, ap length bytes, length-append face (row e rest))
+
+  pub faces-turn : (out′ : List ℕ) (o′ : ℕ) → out′ ≡ sets out o face → o′ ≡ o + length face → FaceRow e places counts n out₀ at out′ (k + getD counts j 0) o′ (j + 1)
+  faces-turn out′ o′ w g =
+      record {
+        within = omega arith;
+        same = ap length w ∙ length-sets out o face ∙ v .same;
+        left = left-after;
+        place = omega (arith, g, v .place, ap length bytes, length-append face (row e rest));
+        whole = ap (λ x. sets x o′ (row e rest)) w ∙ ap (λ i. sets (sets out o face) i (row e rest)) g ∙ sets-append out o face (row e rest) ∙ ap (sets out o) (sym bytes) ∙ v .whole;
+      }
+
+pub faces-end : {e : List ℕ → List ℕ} {places counts : List ℕ} {n : ℕ} {out₀ : List ℕ} {at : ℕ} {out : List ℕ} {k o j : ℕ} → FaceRow e places counts n out₀ at out k o j → n ≤ j →
+    (o ≡ at + length (row e (facesAt places 0 (countsAt counts 0 n)))) × (out ≡ sets out₀ at (row e (facesAt places 0 (countsAt counts 0 n))))
+unfolding row facesAt
+faces-end {e} {places} {counts} {n} {out₀} {at} {out} {k} {o} {j} v h =
+    let d : row e (facesAt places k (drop j (countsAt counts 0 n))) ≡ [] = ap (λ ns. row e (facesAt places k ns)) (counts-done counts 0 n j h) in
+    (omega (arith, v .place, ap length d), sym (ap (sets out o) d) ∙ v .whole)

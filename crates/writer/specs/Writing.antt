@@ -9,7 +9,7 @@ use Rattle.words.specs.Little.{digits}
 use Rattle.polygon.specs.Memory.{pointsAt}
 use Rattle.room.specs.Rooms.{countsAt}
 use Rattle.job.specs.declared.Operation.{Operation}
-use Rattle.job.specs.Bytes.{Job, facesTo, solidTo, jobBytes}
+use Rattle.job.specs.Bytes.{Job, recordsTo, facesTo, solidTo, jobBytes}
 use Rattle.job.specs.Written.{solidBodies, jobBodies}
 use Rattle.solids.specs.Frames.{facesAt, Placing}
 
@@ -21,6 +21,10 @@ solidIn points m places counts n = record { points = pointsAt points 0 m; faces 
 pub record Lent (places counts : List ℕ) (n : ℕ) : Type 0 where
   pub few : n ≤ length counts
   pub placing : Placing (countsAt counts 0 n) 0 (length places)
+
+-- a face opens, and its corners follow
+unfoldable pub faceRecord : List ℕ → List ℕ
+faceRecord f = 3 ∷ recordsTo 4 (map (digits 2) f) []
 
 -- faces and a solid, with nothing behind them
 unfoldable pub facesBytes : List (List ℕ) → List ℕ

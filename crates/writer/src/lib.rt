@@ -2,7 +2,7 @@
 use job::Operation;
 use space::Precision;
 ghost use mathlib.Core.Path.{_≡_};
-ghost use mathlib.Core.List.{[], _∷_, map};
+ghost use mathlib.Core.List.{[], map};
 ghost use Prim.Native.Nat.{_+_, _*_, _≤_};
 ghost use lib.ListN.{length};
 ghost use lib.Seq.{sets};
@@ -12,7 +12,7 @@ ghost use Rattle.room.specs.Rooms.{countsAt};
 ghost use Rattle.job.specs.Bytes.{recordsTo};
 ghost use Rattle.job.specs.Written.{pointBytes};
 ghost use Rattle.solids.specs.Frames.{facesAt};
-ghost use Rattle.writer.specs.Writing.{facesBytes, solidBytes, writtenJob, Lent, solidIn};
+ghost use Rattle.writer.specs.Writing.{faceRecord, facesBytes, solidBytes, writtenJob, Lent, solidIn};
 
 // The records of m points.
 fn write_points(points: &[f64], m: usize, out: &mut [u8], at: usize)
@@ -43,7 +43,7 @@ fn write_corners(places: &[u64], k: usize, n: usize, out: &mut [u8], at: usize)
 // A face opens, and its corners follow.
 fn write_face(places: &[u64], k: usize, n: usize, out: &mut [u8], at: usize)
     requires { ⌜ (k + n ≤ length (now places)) × (at + 1 + 3 * n ≤ length (now out)) ⌝ }
-    ensures { λ _. ⌜ now (out .exit) ≡ sets (now (out .entry)) at (3 ∷ recordsTo 4 (map (digits 2) (countsAt (now (places .entry)) k n)) []) ⌝ }
+    ensures { λ _. ⌜ now (out .exit) ≡ sets (now (out .entry)) at (faceRecord (countsAt (now (places .entry)) k n)) ⌝ }
 {
     pack::put_face(out, at);
     write_corners(places, k, n, out, at + 1);

@@ -1,19 +1,23 @@
 use borrow.Author.Needs.{needs}
+use mathlib.Core.Path.{_≡_}
 use native.Mathlib.Omega.{arith}
 use Prim.Native.Nat.{ℕ, _+_, _-_, _*_, _≤_}
 use lib.ListN.{length, getD}
-use Rattle.writer.specs.Laws.{Facewise, faces-start, face-fits, face-inside, faces-turn, faces-end}
+use Rattle.room.specs.Rooms.{countsAt}
+use Rattle.writer.specs.Writing.{faceRecord}
+use Rattle.writer.specs.Rows.{FaceRow, faces-start, face-fits, face-corners, face-inside, faces-turn}
+use Rattle.writer.specs.Laws.{length-faceRecord, faces-room, faces-written}
 use Rattle.writer.proofs.write_faces.Statement.{statement}
 use Rattle.writer.proofs.write_faces.Tie as tie
 
 abbrev Inv-loop : tie.InvT-loop
-Inv-loop places counts n out₀ at k₀ o₀ j₀ out k o j = Facewise places counts n out₀ at out k o j
+Inv-loop places counts n out₀ at k₀ o₀ j₀ out k o j = FaceRow faceRecord places counts n out₀ at out k o j
 
 abbrev μ-loop : tie.MeasureT-loop
 μ-loop places counts n out₀ at k₀ o₀ j₀ out k o j = n - j
 
 loop-holds : tie.Need-loop-holds Inv-loop μ-loop
-loop-holds c = search (needs, faces-start)
+loop-holds c = faces-start _ _ _ _ _ _ (c .before .before .before .pre .0 .placing)
 
 -- the face at hand lies within its slices
 abbrev size : tie.In-loop Inv-loop μ-loop → ℕ
@@ -22,7 +26,18 @@ size c = getD (c .before .before .before .before .before .args .counts .now) (c 
 fits : (c : tie.In-loop Inv-loop μ-loop) → (c .before .loop .k + size c ≤ length (c .before .before .before .before .before .args .places .now)) × (c .before .loop .o + 1 + 3 * size c ≤ length (c .before .loop .out))
 fits c =
     let S = c .before .before .before .before .before in
-    (face-fits (c .before .loop .inv) (c .loop-test .taken) (S .pre .0 .few), face-inside (c .before .loop .inv) (c .loop-test .taken) (S .pre .0 .few) (S .pre .1))
+    let L = c .before .loop in
+    let A = S .args in
+    let f = countsAt (A .places .now) (L .k) (size c) in
+    (face-fits (L .inv) (c .loop-test .taken) (S .pre .0 .few),
+     omega (arith, face-inside (L .inv) (c .loop-test .taken) (S .pre .0 .few) (faces-room (A .at) (length (A .out .now)) _ (S .pre .1)), length-faceRecord f, face-corners (L .inv) (c .loop-test .taken) (S .pre .0 .few)))
+
+-- the place behind it
+behind : (c : tie.In-loop Inv-loop μ-loop) → c .before .loop .o + (1 + 3 * size c) ≡ c .before .loop .o + length (faceRecord (countsAt (c .before .before .before .before .before .args .places .now) (c .before .loop .k) (size c)))
+behind c =
+    let S = c .before .before .before .before .before in
+    let L = c .before .loop in
+    omega (arith, length-faceRecord (countsAt (S .args .places .now) (L .k) (size c)), face-corners (L .inv) (c .loop-test .taken) (S .pre .0 .few))
 
 mul-c : tie.Need-mul-c Inv-loop μ-loop
 mul-c c = search needs
@@ -52,13 +67,13 @@ loop-less : tie.Need-loop-less Inv-loop μ-loop
 loop-less c = search needs
 
 loop-again : tie.Need-loop-again Inv-loop μ-loop
-loop-again c = search (needs, faces-turn)
+loop-again c = let C = c .before .before .before .before .before in faces-turn (C .before .loop .inv) (C .loop-test .taken) (C .before .before .before .before .before .pre .0 .few) _ _ (c .before .before .write-face .ensures) (behind C)
 
 same-length : tie.Need-same-length Inv-loop μ-loop
 same-length c = search needs
 
 returns : tie.Need-returns Inv-loop μ-loop
-returns c = faces-end (c .before .loop .inv) (c .loop-test .left)
+returns c = faces-written (c .before .loop .inv) (c .loop-test .left)
 
 pub write-faces-spec : {M : Type 1} → statement M
 write-faces-spec =
