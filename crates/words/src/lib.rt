@@ -83,6 +83,13 @@ pub fn put_index(out: &mut [u8], at: usize, x: u64)
     put_digits(out, at, 2, x);
 }
 
+pub fn put_count(out: &mut [u8], at: usize, x: u64)
+    requires { ⌜ at + 4 ≤ length (now out) ⌝ }
+    ensures { λ _. ⌜ now (out .exit) ≡ sets (now (out .entry)) at (digits 4 x) ⌝ }
+{
+    put_digits(out, at, 4, x);
+}
+
 pub fn put_float(out: &mut [u8], at: usize, x: f64)
     requires { ⌜ at + 8 ≤ length (now out) ⌝ }
     ensures { λ _. ⌜ now (out .exit) ≡ sets (now (out .entry)) at (floatBytes x) ⌝ }

@@ -28,9 +28,10 @@ fits c =
     let S = c .before .before .before .before .before in
     let L = c .before .loop in
     let A = S .args in
-    let f = countsAt (A .places .now) (L .k) (size c) in
-    (face-fits (L .inv) (c .loop-test .taken) (S .pre .0 .few),
-     omega (arith, face-inside (L .inv) (c .loop-test .taken) (S .pre .0 .few) (faces-room (A .at) (length (A .out .now)) _ (S .pre .1)), length-faceRecord f, face-corners (L .inv) (c .loop-test .taken) (S .pre .0 .few)))
+    let f = countsAt (A .places .now) (L .k) (size c) in (
+      face-fits (L .inv) (c .loop-test .taken) (S .pre .0 .few),
+      omega (arith, face-inside (L .inv) (c .loop-test .taken) (S .pre .0 .few) (faces-room (A .at) (length (A .out .now)) _ (S .pre .1)), length-faceRecord f, face-corners (L .inv) (c .loop-test .taken) (S .pre .0 .few)),
+    )
 
 -- the place behind it
 behind : (c : tie.In-loop Inv-loop μ-loop) → c .before .loop .o + (1 + 3 * size c) ≡ c .before .loop .o + length (faceRecord (countsAt (c .before .before .before .before .before .args .places .now) (c .before .loop .k) (size c)))
