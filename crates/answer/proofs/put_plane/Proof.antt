@@ -28,7 +28,7 @@ same-length : tie.Need-same-length
 same-length c = search needs
 
 returns : tie.Need-returns
-returns c = search (needs, plane-stored)
+returns c = let A = c .before .before .before .before .before .before .before .before .before .before .before .before .before .before .before .before .before .before .before .before .before .before .args in plane-stored (A .out .now) _ _ _ _ (A .at) (A .w) (c .before .before .before .before .before .before .before .before .before .before .before .before .before .before .put-point .ensures) (c .before .before .before .before .before .before .before .before .before .before .put-point2 .ensures) (c .before .before .before .before .before .before .put-point3 .ensures) (c .before .before .put-point4 .ensures)
 
 pub put-plane-spec : {M : Type 1} → statement M
 put-plane-spec =
