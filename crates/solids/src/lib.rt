@@ -154,7 +154,7 @@ pub fn face_sides(
 }
 
 // The point at a place of m; the origin where there is none.
-fn point_of(points: &[f64], m: usize, x: usize) -> Point3
+pub fn point_of(points: &[f64], m: usize, x: usize) -> Point3
     requires { ⌜ 3 * m ≤ length (now points) ⌝ }
     ensures { λ r. ⌜ r ≡ pointOf (pointsAt (now (points .entry)) 0 m) x ⌝ }
 {
