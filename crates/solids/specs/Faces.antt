@@ -71,45 +71,64 @@ three-corners t ps l at n a b c h g x y z =
     ∙ ap (λ k. facePlane t a k (pointOf ps (getD (countsAt l at n) 2 0))) (ap (pointOf ps) q ∙ sym y)
     ∙ ap (λ k. facePlane t a b k) (ap (pointOf ps) r ∙ sym z)
 
--- ---- a loop over n faces: j are fine, and the corners of the next begin at a place
-
-pub record Facing (g : List ℕ → Verdict) (l counts : List ℕ) (n at j : ℕ) : Type 0 where
-  pub upto : j ≤ n
-  pub left : Placing (drop j (countsAt counts 0 n)) at (length l)
-  pub rest : eachIn g (facesAt l at (drop j (countsAt counts 0 n))) ≡ eachIn g (facesAt l 0 (countsAt counts 0 n))
-
-pub facing-start : (g : List ℕ → Verdict) (l counts : List ℕ) (n : ℕ) → Placing (countsAt counts 0 n) 0 (length l) → Facing g l counts n 0 0
-facing-start g l counts n h = record { upto = omega arith; left = h; rest = refl }
+-- ---- a loop over n faces: j are done, and the corners of the next begin at a place
 
 pub placing-le : (ns : List ℕ) (at m : ℕ) → Placing ns at m → at ≤ m
 unfolding Placing
 placing-le [] at m h = h
 placing-le (n ∷ ns) at m h = omega (arith, placing-le ns (at + n) m h)
 
-module _ {g : List ℕ → Verdict} {l counts : List ℕ} {n at j : ℕ} (I : Facing g l counts n at j) (room : n ≤ length counts) where
+pub record Along (l counts : List ℕ) (n at j : ℕ) : Type 0 where
+  pub upto : j ≤ n
+  pub left : Placing (drop j (countsAt counts 0 n)) at (length l)
+
+pub along-start : (l counts : List ℕ) (n : ℕ) → Placing (countsAt counts 0 n) 0 (length l) → Along l counts n 0 0
+along-start l counts n h = record { upto = omega arith; left = h }
+
+module _ {l counts : List ℕ} {n at j : ℕ} (I : Along l counts n at j) (room : n ≤ length counts) where
   opens : j < n → drop j (countsAt counts 0 n) ≡ getD counts j 0 ∷ drop (j + 1) (countsAt counts 0 n)
   opens h = next-count counts 0 n j h (omega arith) ∙ ap (λ k. getD counts k 0 ∷ drop (j + 1) (countsAt counts 0 n)) (omega arith)
 
-  after : j < n → Placing (drop (j + 1) (countsAt counts 0 n)) (at + getD counts j 0) (length l)
+  pub along-next : j < n → Along l counts n (at + getD counts j 0) (j + 1)
   unfolding Placing
-  after h = rw (opens h) at (I .left)
+  along-next h = record { upto = omega arith; left = rw (opens h) at (I .left) }
 
+  pub along-room : j < n → at + getD counts j 0 ≤ length l
+  along-room h = placing-le _ _ _ (along-next h .left)
+
+  -- the face at hand, and the rest
+  pub along-face : j < n → facesAt l at (drop j (countsAt counts 0 n)) ≡ countsAt l at (getD counts j 0) ∷ facesAt l (at + getD counts j 0) (drop (j + 1) (countsAt counts 0 n))
+  unfolding facesAt
+  along-face h = ap (facesAt l at) (opens h)
+
+  pub along-end : n ≤ j → facesAt l at (drop j (countsAt counts 0 n)) ≡ []
+  unfolding facesAt
+  along-end h = ap (facesAt l at) (counts-done counts 0 n j h)
+
+-- the same, where the j faces are fine
+pub record Facing (g : List ℕ → Verdict) (l counts : List ℕ) (n at j : ℕ) : Type 0 where
+  pub along : Along l counts n at j
+  pub rest : eachIn g (facesAt l at (drop j (countsAt counts 0 n))) ≡ eachIn g (facesAt l 0 (countsAt counts 0 n))
+
+pub facing-start : (g : List ℕ → Verdict) (l counts : List ℕ) (n : ℕ) → Placing (countsAt counts 0 n) 0 (length l) → Facing g l counts n 0 0
+facing-start g l counts n h = record { along = along-start l counts n h; rest = refl }
+
+module _ {g : List ℕ → Verdict} {l counts : List ℕ} {n at j : ℕ} (I : Facing g l counts n at j) (room : n ≤ length counts) where
   pub facing-room : j < n → at + getD counts j 0 ≤ length l
-  facing-room h = placing-le _ _ _ (after h)
+  facing-room h = along-room (I .along) room h
 
   onward : j < n → eachIn g (countsAt l at (getD counts j 0) ∷ facesAt l (at + getD counts j 0) (drop (j + 1) (countsAt counts 0 n))) ≡ eachIn g (facesAt l 0 (countsAt counts 0 n))
-  unfolding facesAt
-  onward h = ap (λ ns. eachIn g (facesAt l at ns)) (sym (opens h)) ∙ I .rest
+  onward h = ap (eachIn g) (sym (along-face (I .along) room h)) ∙ I .rest
 
   pub facing-go : j < n → g (countsAt l at (getD counts j 0)) ≡ D.Fine → Facing g l counts n (at + getD counts j 0) (j + 1)
-  facing-go h e = record { upto = omega arith; left = after h; rest = sym (each-go g _ _ e) ∙ onward h }
+  facing-go h e = record { along = along-next (I .along) room h; rest = sym (each-go g _ _ e) ∙ onward h }
 
   pub facing-stop : (r : Refusal) → j < n → g (countsAt l at (getD counts j 0)) ≡ D.Refused r → eachIn g (facesAt l 0 (countsAt counts 0 n)) ≡ D.Refused r
   facing-stop r h e = sym (onward h) ∙ each-stop g _ _ r e
 
   pub facing-end : n ≤ j → eachIn g (facesAt l 0 (countsAt counts 0 n)) ≡ D.Fine
-  unfolding eachIn facesAt
-  facing-end h = sym (I .rest) ∙ ap (λ ns. eachIn g (facesAt l at ns)) (counts-done counts 0 n j h)
+  unfolding eachIn
+  facing-end h = sym (I .rest) ∙ ap (eachIn g) (along-end (I .along) room h)
 
 -- ---- a test of each element
 

@@ -1,0 +1,4 @@
+pub mod Topology
+pub mod Corners
+pub mod Laws
+pub mod Sound
