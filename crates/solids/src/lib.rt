@@ -73,7 +73,7 @@ pub fn all_apart(t: Precision, points: &[f64], n: usize) -> Verdict
 }
 
 // The place x is one of the n from a place on.
-fn is_corner(places: &[u64], at: usize, n: usize, x: usize) -> bool
+pub fn is_corner(places: &[u64], at: usize, n: usize, x: usize) -> bool
     requires { ⌜ at + n ≤ length (now places) ⌝ }
     ensures { λ r. ⌜ r ≡ has x false (countsAt (now (places .entry)) at n) ⌝ }
 {
@@ -154,7 +154,7 @@ pub fn face_sides(
 }
 
 // The point at a place of m; the origin where there is none.
-fn point_of(points: &[f64], m: usize, x: usize) -> Point3
+pub fn point_of(points: &[f64], m: usize, x: usize) -> Point3
     requires { ⌜ 3 * m ≤ length (now points) ⌝ }
     ensures { λ r. ⌜ r ≡ pointOf (pointsAt (now (points .entry)) 0 m) x ⌝ }
 {
