@@ -81,7 +81,7 @@ pub record Facing (g : List ℕ → Verdict) (l counts : List ℕ) (n at j : ℕ
 pub facing-start : (g : List ℕ → Verdict) (l counts : List ℕ) (n : ℕ) → Placing (countsAt counts 0 n) 0 (length l) → Facing g l counts n 0 0
 facing-start g l counts n h = record { upto = omega arith; left = h; rest = refl }
 
-placing-le : (ns : List ℕ) (at m : ℕ) → Placing ns at m → at ≤ m
+pub placing-le : (ns : List ℕ) (at m : ℕ) → Placing ns at m → at ≤ m
 unfolding Placing
 placing-le [] at m h = h
 placing-le (n ∷ ns) at m h = omega (arith, placing-le ns (at + n) m h)
