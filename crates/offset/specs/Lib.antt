@@ -1,0 +1,5 @@
+pub mod Offsets
+pub mod Stored
+pub mod Laws
+pub mod Indexes
+pub mod Whole
