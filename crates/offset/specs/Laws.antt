@@ -263,68 +263,92 @@ grown-more {d₀} {to} {n₀} {k} {cell} {d} {ns} {q} {j} f c d′ ns′ e h ed 
 pub grown-size : {d₀ : List Float} {to : ℕ} {n₀ : List ℕ} {k : ℕ} {cell : Cell} {d : List Float} {ns : List ℕ} {q j : ℕ} → Grown d₀ to n₀ k cell d ns q j → (length d ≡ length d₀) × (length ns ≡ length n₀)
 grown-size {d₀} {to} {n₀} {k} {cell} g = (ap length (g .floats) ∙ length-sets d₀ to (cellFloats cell), ap length (g .counts) ∙ length-sets n₀ k (cellCounts cell))
 
+-- ---- a list whose elements become the faces of a cell, one after another
+
+pub record Listing {A : Type 0} (f : A → Outcome Face) (whole : List A) (counts : List ℕ) (first n : ℕ) (d₀ : List Float) (to : ℕ) (n₀ : List ℕ) (k : ℕ) (d : List Float) (ns : List ℕ) (q j : ℕ) (rest : List A) : Type 0 where
+  pub cell : Cell
+  pub grown : Grown d₀ to n₀ k cell d ns q j
+  pub within : Within (drop j (countsAt counts first n)) q (length d₀)
+  pub still : each f cell rest ≡ each f [] whole
+
+pub listing-start : {A : Type 0} (f : A → Outcome Face) (whole : List A) (counts : List ℕ) (first n : ℕ) (d : List Float) (to : ℕ) (ns : List ℕ) (k : ℕ) → Place counts first n d to ns k →
+    Listing f whole counts first n d to ns k d ns to 0 whole
+listing-start f whole counts first n d to ns k h = record { cell = []; grown = grown-none d to ns k; within = h .floats; still = refl }
+
+module _ {A : Type 0} {f : A → Outcome Face} {whole : List A} {counts : List ℕ} {first n : ℕ} {d₀ : List Float} {to : ℕ} {n₀ : List ℕ} {k : ℕ} {d : List Float} {ns : List ℕ} {q j : ℕ} {rest : List A}
+    (I : Listing f whole counts first n d₀ to n₀ k d ns q j rest) where
+  pub listing-size : length d ≡ length d₀
+  listing-size = grown-size (I .grown) .0
+
+  pub listing-slots : length ns ≡ length n₀
+  listing-slots = grown-size (I .grown) .1
+
+  module _ (listed : first + n ≤ length counts) (h : j < n) where
+    here : Within (getD counts (first + j) 0 ∷ drop (j + 1) (countsAt counts first n)) q (length d₀)
+    here = rw (next-count counts first n j h listed) at (I .within)
+
+    pub listing-fits : q + 12 + 3 * getD counts (first + j) 0 ≤ length d
+    listing-fits = omega (arith, listing-size, within-le _ _ _ (within-rest (getD counts (first + j) 0) (drop (j + 1) (countsAt counts first n)) q (length d₀) here))
+
+    pub listing-step : (x : A) (l : List A) (d′ : List Float) (ns′ : List ℕ) (v : Verdict) → rest ≡ x ∷ l → FaceMoved (f x) q d d′ v → v ≡ D.Fine →
+        ((g : Face) → f x ≡ ok g → length (g .points) ≡ getD counts (first + j) 0) → ns′ ≡ set ns (k + j) (getD counts (first + j) 0) →
+        Listing f whole counts first n d₀ to n₀ k d′ ns′ (q + 12 + 3 * getD counts (first + j) 0) (j + 1) l
+    listing-step x l d′ ns′ v r m e w u =
+        let g = face-made (f x) q d d′ v m e in
+        record {
+          cell = I .cell ++ (g .0 ∷ []);
+          grown = grown-more (g .0) (getD counts (first + j) 0) d′ ns′ (w (g .0) (g .1)) (within-small (getD counts (first + j) 0) _ q (length d₀) here) (g .2) u (I .grown);
+          within = within-rest (getD counts (first + j) 0) (drop (j + 1) (countsAt counts first n)) q (length d₀) here;
+          still = sym (each-go f (I .cell) x l (g .0) (g .1)) ∙ ap (each f (I .cell)) (sym r) ∙ I .still;
+        }
+
+    pub listing-stop : (x : A) (l : List A) (d′ : List Float) (v v′ : Verdict) (y : Refusal) → rest ≡ x ∷ l → FaceMoved (f x) q d d′ v → v ≡ D.Refused y → v′ ≡ D.Refused y → CellMoved (each f [] whole) n d₀ to n₀ k d′ ns v′
+    unfolding CellMoved
+    listing-stop x l d′ v v′ y r m e e′ =
+        let g = face-not (f x) q d d′ v y m e in
+        let z : each f [] whole ≡ refused y = sym (I .still) ∙ ap (each f (I .cell)) r ∙ each-stop f (I .cell) x l y (g .0) in
+        subst (λ o. CellMoved o n d₀ to n₀ k d′ ns v′) (sym z) (e′, g .1 ∙ listing-size, listing-slots)
+
+  pub listing-end : (v : Verdict) → n ≤ j → j ≤ n → rest ≡ [] → v ≡ D.Fine → CellMoved (each f [] whole) n d₀ to n₀ k d ns v
+  unfolding CellMoved
+  listing-end v h g r e =
+      let z : each f [] whole ≡ ok (I .cell) = sym (I .still) ∙ ap (each f (I .cell)) r ∙ each-end f (I .cell) in
+      let w : j ≡ n = omega arith in
+      subst (λ o. CellMoved o n d₀ to n₀ k d ns v) (sym z)
+      (e, I .grown .floats, I .grown .counts, I .grown .faces ∙ w, omega (arith, I .grown .place, within-le _ q (length d₀) (I .within)), I .grown .small)
+
 -- ---- the faces
 
 pub record Building (t : Precision) (qs : List Point3) (s : List Float) (at : ℕ) (counts : List ℕ) (first n : ℕ) (by : List Float) (i : List ℕ) (d₀ : List Float) (to : ℕ) (n₀ : List ℕ) (k : ℕ)
     (d : List Float) (ns : List ℕ) (o p q j : ℕ) : Type 0 where
   pub along : Along s counts first n i o p j
-  pub cell : Cell
-  pub grown : Grown d₀ to n₀ k cell d ns q j
-  pub within : Within (drop j (countsAt counts first n)) q (length d₀)
-  pub rest : each (moveFace t qs) cell (onward s counts first n by i o p j) ≡ each (moveFace t qs) [] (movingAt s at counts first n by i)
+  pub listing : Listing (moveFace t qs) (movingAt s at counts first n by i) counts first n d₀ to n₀ k d ns q j (onward s counts first n by i o p j)
 
 pub building-start : {t : Precision} {qs : List Point3} {s : List Float} {at : ℕ} {counts : List ℕ} {first n : ℕ} {by : List Float} {i : List ℕ} {d : List Float} {to : ℕ} {ns : List ℕ} {k : ℕ} →
     Source s at counts first n by i → Place counts first n d to ns k → Building t qs s at counts first n by i d to ns k d ns at 0 to 0
-building-start {d = d} {to = to} {ns = ns} {k = k} g h = record { along = along-start g; cell = []; grown = grown-none d to ns k; within = h .floats; rest = refl }
+building-start g h = record { along = along-start g; listing = listing-start _ _ _ _ _ _ _ _ _ h }
 
 module _ {t : Precision} {qs : List Point3} {s : List Float} {at : ℕ} {counts : List ℕ} {first n : ℕ} {by : List Float} {i : List ℕ} {d₀ : List Float} {to : ℕ} {n₀ : List ℕ} {k : ℕ}
-    {d : List Float} {ns : List ℕ} {o p q j : ℕ} (I : Building t qs s at counts first n by i d₀ to n₀ k d ns o p q j) where
-  pub building-size : length d ≡ length d₀
-  building-size = grown-size (I .grown) .0
-
-  pub building-slots : length ns ≡ length n₀
-  building-slots = grown-size (I .grown) .1
-
-  module _ (given : Source s at counts first n by i) (h : j < n) where
-    here : Within (getD counts (first + j) 0 ∷ drop (j + 1) (countsAt counts first n)) q (length d₀)
-    here = rw (next-count counts first n j h (given .lies .listed)) at (I .within)
-
+    {d : List Float} {ns : List ℕ} {o p q j : ℕ} (I : Building t qs s at counts first n by i d₀ to n₀ k d ns o p q j) (given : Source s at counts first n by i) where
+  module _ (h : j < n) where
     pub building-fits : q + 12 + 3 * getD counts (first + j) 0 ≤ length d
-    building-fits = omega (arith, building-size, within-le _ _ _ (within-rest (getD counts (first + j) 0) (drop (j + 1) (countsAt counts first n)) q (length d₀) here))
+    building-fits = listing-fits (I .listing) (given .lies .listed) h
 
-    face-turn : each (moveFace t qs) (I .cell) (movingFace s by i o p (getD counts (first + j) 0) j ∷ onward s counts first n by i (o + 12 + 3 * getD counts (first + j) 0) (p + getD counts (first + j) 0) (j + 1))
-        ≡ each (moveFace t qs) [] (movingAt s at counts first n by i)
-    face-turn = ap (each (moveFace t qs) (I .cell)) (sym (along-next given h (I .along))) ∙ I .rest
+    sized : (g : Face) → moveFace t qs (movingFace s by i o p (getD counts (first + j) 0) j) ≡ ok g → length (g .points) ≡ getD counts (first + j) 0
+    sized g e =
+        moved-corners t qs (movingFace s by i o p (getD counts (first + j) 0) j) g e
+        ∙ length-take (getD counts (first + j) 0) (drop p i) ∙ omega (arith, length-drop p i, along-few given h (I .along))
 
     pub building-step : (d′ : List Float) (ns′ : List ℕ) (v : Verdict) → FaceMoved (moveFace t qs (movingFace s by i o p (getD counts (first + j) 0) j)) q d d′ v → v ≡ D.Fine → ns′ ≡ set ns (k + j) (getD counts (first + j) 0) →
         Building t qs s at counts first n by i d₀ to n₀ k d′ ns′ (o + 12 + 3 * getD counts (first + j) 0) (p + getD counts (first + j) 0) (q + 12 + 3 * getD counts (first + j) 0) (j + 1)
-    building-step d′ ns′ v m e u =
-        let c = getD counts (first + j) 0 in
-        let g = face-made _ q d d′ v m e in
-        let f = g .0 in
-        let l : length (countsAt i p (getD counts (first + j) 0)) ≡ getD counts (first + j) 0 = length-take c (drop p i) ∙ omega (arith, length-drop p i, along-few given h (I .along)) in
-        let w : length (f .points) ≡ getD counts (first + j) 0 = moved-corners t qs (movingFace s by i o p c j) f (g .1) ∙ l in
-        record {
-          along = along-step given h (I .along);
-          cell = I .cell ++ (f ∷ []);
-          grown = grown-more f c d′ ns′ w (within-small c _ q (length d₀) here) (g .2) u (I .grown);
-          within = within-rest c (drop (j + 1) (countsAt counts first n)) q (length d₀) here;
-          rest = sym (each-go (moveFace t qs) (I .cell) (movingFace s by i o p c j) _ f (g .1)) ∙ face-turn;
-        }
+    building-step d′ ns′ v m e u = record {
+      along = along-step given h (I .along);
+      listing = listing-step (I .listing) (given .lies .listed) h (movingFace s by i o p (getD counts (first + j) 0) j) _ d′ ns′ v (along-next given h (I .along)) m e sized u;
+    }
 
     pub building-stop : (d′ : List Float) (v v′ : Verdict) (r : Refusal) → FaceMoved (moveFace t qs (movingFace s by i o p (getD counts (first + j) 0) j)) q d d′ v → v ≡ D.Refused r → v′ ≡ D.Refused r →
         CellMoved (each (moveFace t qs) [] (movingAt s at counts first n by i)) n d₀ to n₀ k d′ ns v′
-    unfolding CellMoved
-    building-stop d′ v v′ r m e e′ =
-        let g = face-not _ q d d′ v r m e in
-        let z : each (moveFace t qs) [] (movingAt s at counts first n by i) ≡ refused r = sym face-turn ∙ each-stop (moveFace t qs) (I .cell) (movingFace s by i o p (getD counts (first + j) 0) j) _ r (g .0) in
-        subst (λ y. CellMoved y n d₀ to n₀ k d′ ns v′) (sym z) (e′, g .1 ∙ building-size, building-slots)
+    building-stop d′ v v′ r m e e′ = listing-stop (I .listing) (given .lies .listed) h (movingFace s by i o p (getD counts (first + j) 0) j) _ d′ v v′ r (along-next given h (I .along)) m e e′
 
   pub building-end : (v : Verdict) → n ≤ j → v ≡ D.Fine → CellMoved (each (moveFace t qs) [] (movingAt s at counts first n by i)) n d₀ to n₀ k d ns v
-  unfolding CellMoved
-  building-end v h e =
-      let z : each (moveFace t qs) [] (movingAt s at counts first n by i) ≡ ok (I .cell) =
-      sym (ap (each (moveFace t qs) (I .cell)) (sym (along-done s counts first n by i o p j h)) ∙ I .rest) ∙ each-end (moveFace t qs) (I .cell) in
-      let w : j ≡ n = omega (arith, I .along .ahead .upto) in
-      subst (λ y. CellMoved y n d₀ to n₀ k d ns v) (sym z)
-      (e, I .grown .floats, I .grown .counts, I .grown .faces ∙ w, omega (arith, I .grown .place, within-le _ q (length d₀) (I .within)), I .grown .small)
+  building-end v h e = listing-end (I .listing) v h (I .along .ahead .upto) (along-done s counts first n by i o p j h) e

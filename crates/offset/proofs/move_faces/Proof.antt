@@ -3,7 +3,7 @@ use mathlib.Core.Path.{refl, sym, ap, _∙_}
 use Prim.Native.Nat.{_-_}
 use native.Mathlib.Omega.{arith}
 use Rattle.polygon.specs.Memory.{pointsAt}
-use Rattle.offset.specs.Laws.{Building, building-start, building-size, building-slots, building-fits, building-step, building-stop, building-end, along-inside, along-few, face-not}
+use Rattle.offset.specs.Laws.{Building, listing-size, listing-slots, building-start, building-fits, building-step, building-stop, building-end, along-inside, along-few, face-not}
 use Rattle.offset.proofs.move_faces.Statement.{statement}
 use Rattle.offset.proofs.move_faces.Tie as tie
 
@@ -64,12 +64,12 @@ same-length c =
     let W = c .before in
     let M = W .before .before .before .before in
     let L = M .before .before .before .before .before in
-    face-not _ _ _ _ _ _ (M .move-face .ensures) (W .v .given .1) .1 ∙ building-size (L .loop .inv)
+    face-not _ _ _ _ _ _ (M .move-face .ensures) (W .v .given .1) .1 ∙ listing-size (L .loop .inv .listing)
 
 same-length-2 : tie.Need-same-length-2 Inv-loop μ-loop
 same-length-2 c =
     let L = c .before .before .before .before .before .before .before .before .before .before in
-    building-slots (L .loop .inv)
+    listing-slots (L .loop .inv .listing)
 
 returns : tie.Need-returns Inv-loop μ-loop
 returns c =
@@ -97,7 +97,7 @@ slice-write-sizes c =
     let T = c .before .before .before .before .before .before .before .before in
     let L = T .before in
     let S = L .before .before .before .before .before .before .before .before in
-    omega (arith, S .pre .2 .slots, building-slots (L .loop .inv), T .loop-test .taken)
+    omega (arith, S .pre .2 .slots, listing-slots (L .loop .inv .listing), T .loop-test .taken)
 
 add-o : tie.Need-add-o Inv-loop μ-loop
 add-o c =
@@ -132,21 +132,21 @@ add-q c =
     let T = c .before .before .before .before .before .before .before .before in
     let L = T .before in
     let S = L .before .before .before .before .before .before .before .before in
-    omega (arith, building-fits (L .loop .inv) (S .pre .0) (T .loop-test .taken), building-size (L .loop .inv), S .good)
+    omega (arith, building-fits (L .loop .inv) (S .pre .0) (T .loop-test .taken), listing-size (L .loop .inv .listing), S .good)
 
 mul-q : tie.Need-mul-q Inv-loop μ-loop
 mul-q c =
     let T = c .before .before .before .before .before .before .before .before in
     let L = T .before in
     let S = L .before .before .before .before .before .before .before .before in
-    omega (arith, building-fits (L .loop .inv) (S .pre .0) (T .loop-test .taken), building-size (L .loop .inv), S .good)
+    omega (arith, building-fits (L .loop .inv) (S .pre .0) (T .loop-test .taken), listing-size (L .loop .inv .listing), S .good)
 
 add-q-2 : tie.Need-add-q-2 Inv-loop μ-loop
 add-q-2 c =
     let T = c .before .before .before .before .before .before .before .before in
     let L = T .before in
     let S = L .before .before .before .before .before .before .before .before in
-    omega (arith, building-fits (L .loop .inv) (S .pre .0) (T .loop-test .taken), building-size (L .loop .inv), S .good)
+    omega (arith, building-fits (L .loop .inv) (S .pre .0) (T .loop-test .taken), listing-size (L .loop .inv .listing), S .good)
 
 add-j : tie.Need-add-j Inv-loop μ-loop
 add-j c =
@@ -166,13 +166,16 @@ loop-again c =
     building-step (L .loop .inv) (S .pre .0) (T .loop-test .taken) _ _ _ (M .move-face .ensures) (c .enum-told .given .1) refl
 
 same-length-3 : tie.Need-same-length-3 Inv-loop μ-loop
-same-length-3 c = building-size (c .before .loop .inv)
+same-length-3 c = listing-size (c .before .loop .inv .listing)
 
 same-length-4 : tie.Need-same-length-4 Inv-loop μ-loop
-same-length-4 c = building-slots (c .before .loop .inv)
+same-length-4 c = listing-slots (c .before .loop .inv .listing)
 
 returns-2 : tie.Need-returns-2 Inv-loop μ-loop
-returns-2 c = building-end (c .before .loop .inv) _ (c .loop-test .left) refl
+returns-2 c =
+    let L = c .before in
+    let S = L .before .before .before .before .before .before .before .before in
+    building-end (L .loop .inv) (S .pre .0) _ (c .loop-test .left) refl
 
 pub move-faces-spec : {M : Type 1} → statement M
 move-faces-spec =
