@@ -3,3 +3,4 @@ pub mod Stored
 pub mod Laws
 pub mod Indexes
 pub mod Whole
+pub mod Theorem
