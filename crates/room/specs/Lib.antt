@@ -1,3 +1,4 @@
 pub mod Rooms
 pub mod Laws
 pub mod Steps
+pub mod Numbered
