@@ -4,10 +4,9 @@ use mathlib.Core.Bool.{Bool, true, false}
 use mathlib.Core.List.{List, [], _∷_, _++_, append-nil, append-assoc}
 use Prim.Native.Nat.{ℕ, zero, suc, _+_, _-_, _*_, _≤_, _<_}
 use native.Mathlib.Omega.{arith}
-use native.Mathlib.Nat.{not-suc-le-zero, le-of-suc-le-suc}
 use native.Mathlib.Numerals.{add-one, add-two, add-three}
 use lib.ListN.{length, drop, set, getD, length-append, length-set}
-use lib.Seq.{sets, length-sets, set-getD, set-set, set-comm}
+use lib.Seq.{sets, length-sets, set-getD}
 use lib.Dec.{eqb}
 use lib.Ieee.{Float, nan}
 use Rattle.refusal.specs.declared.Refusal.{Refusal}
@@ -23,6 +22,7 @@ use Rattle.polygon.specs.Memory.{floats, floatsOf, pointAt, pointsAt}
 use Rattle.room.specs.Rooms.{Within, cellAt, faceAt, countsAt}
 use Rattle.lists.specs.Walks.{Numbered, numbered}
 use Rattle.room.specs.Numbered.{next-numbered, numbered-done}
+use Rattle.room.specs.Stores.{sets-over}
 use Rattle.room.specs.Laws.{sets-append, sets-point, points-more, points-stored, next-point, points-done, next-count, counts-done, cell-next, cell-none, within-small, within-rest, within-le, corners-cons, length-pointsAt, length-floatsOf}
 use Rattle.indexed.specs.declared.Pick.{Pick}
 use Rattle.indexed.specs.declared.Pick.the-variants.{First, Only}
@@ -264,20 +264,7 @@ unfolding Placed
 placed-not (ok s) m n k p₀ i₀ p i r x h g = absurd (let a = h .0 in let z : _≡_ {A = ℕ} 0 1 = cc in omega arith)
 placed-not (refused y) m n k p₀ i₀ p i r x h g = (let a = h .0 in let b : y ≡ x = cc in ap refused b, h .1, h .2)
 
--- a run of stores over another that is no longer
-sets-set {ℓ} : {A : Type ℓ} (l : List A) (i k : ℕ) (x : A) (v : List A) → i < k → sets (set l i x) k v ≡ set (sets l k v) i x
-sets-set l i k x [] h = refl
-sets-set l i k x (y ∷ v) h = ap (λ z. sets z (suc k) v) (set-comm l i k x y (λ e. omega arith)) ∙ sets-set (set l k y) i (suc k) x v (omega arith)
-
-sets-over {ℓ} : {A : Type ℓ} (l : List A) (i : ℕ) (a b : List A) → length a ≤ length b → sets (sets l i a) i b ≡ sets l i b
-sets-over l i [] b h = refl
-sets-over l i (x ∷ a) [] h = absurd (not-suc-le-zero h)
-sets-over l i (x ∷ a) (y ∷ b) h =
-    ap (λ z. sets (set z i y) (suc i) b) (sets-set l i (suc i) x a (omega arith))
-    ∙ ap (λ z. sets z (suc i) b) (set-set (sets l (suc i) a) i x y ∙ sym (sets-set l i (suc i) y a (omega arith)))
-    ∙ sets-over (set l i y) (suc i) a b (le-of-suc-le-suc h)
-
-flat-snoc : (l : List (List ℕ)) (f : List ℕ) → flat (l ++ (f ∷ [])) ≡ flat l ++ f
+pub flat-snoc : (l : List (List ℕ)) (f : List ℕ) → flat (l ++ (f ∷ [])) ≡ flat l ++ f
 unfolding flat
 flat-snoc [] f = append-nil f
 flat-snoc (g ∷ l) f = ap (λ z. g ++ z) (flat-snoc l f) ∙ sym (append-assoc g (flat l) f)
