@@ -4,10 +4,9 @@ use mathlib.Core.Bool.{Bool, true, false}
 use mathlib.Core.List.{List, [], _∷_, _++_, append-nil, append-assoc}
 use Prim.Native.Nat.{ℕ, zero, suc, _+_, _-_, _*_, _≤_, _<_}
 use native.Mathlib.Omega.{arith}
-use native.Mathlib.Nat.{not-suc-le-zero, le-of-suc-le-suc}
 use native.Mathlib.Numerals.{add-one, add-two, add-three}
 use lib.ListN.{length, drop, set, getD, length-append, length-set}
-use lib.Seq.{sets, length-sets, set-getD, set-set, set-comm}
+use lib.Seq.{sets, length-sets, set-getD}
 use lib.Dec.{eqb}
 use lib.Ieee.{Float, nan}
 use Rattle.refusal.specs.declared.Refusal.{Refusal}
@@ -15,15 +14,21 @@ use Rattle.refusal.specs.Outcome.{Outcome, ok, refused, then, walk}
 use Rattle.refusal.specs.Laws.{stop, go, walk-go, walk-stop, walk-end}
 use Rattle.space.specs.declared.Point3.{Point3}
 use Rattle.space.specs.declared.Precision.{Precision}
+use Rattle.space.specs.declared.Closeness.{Closeness}
 use Rattle.space.specs.declared.Closeness.the-variants.{Near, Apart, Refused}
 use Rattle.space.specs.Near.{nearOf}
 use Rattle.space.specs.Shapes.{Face, Cell, Solid, corners}
 use Rattle.polygon.specs.Memory.{floats, floatsOf, pointAt, pointsAt}
 use Rattle.room.specs.Rooms.{Within, cellAt, faceAt, countsAt}
+use Rattle.lists.specs.Walks.{Numbered, numbered}
+use Rattle.room.specs.Numbered.{next-numbered, numbered-done}
+use Rattle.room.specs.Stores.{sets-over}
 use Rattle.room.specs.Laws.{sets-append, sets-point, points-more, points-stored, next-point, points-done, next-count, counts-done, cell-next, cell-none, within-small, within-rest, within-le, corners-cons, length-pointsAt, length-floatsOf}
+use Rattle.indexed.specs.declared.Pick.{Pick}
+use Rattle.indexed.specs.declared.Pick.the-variants.{First, Only}
 use Rattle.indexed.specs.declared.Counted.{Counted}
 use Rattle.indexed.specs.declared.Counted.the-variants as C
-use Rattle.indexed.specs.Indexed.{placeIn, Places, joined, placed, indexPoint, indexPoints, withFace, indexFace, indexed}
+use Rattle.indexed.specs.Indexed.{Search, placeIn, met, onlyIn, searchBy, Places, joined, placed, indexPoint, indexPoints, withFace, indexFace, indexFaces}
 use Rattle.indexed.specs.Stored.{counted, flat, joinedAt, more, Pointed, Placed, Stored, Fits}
 
 -- ---- one point of a search
@@ -65,6 +70,46 @@ module _ {t : Precision} {q : Point3} {s : List Float} {m i : ℕ} (I : Searched
   pub searched-end : m ≤ i → placeIn t q 0 (pointsAt s 0 m) ≡ ok i
   unfolding placeIn
   searched-end h = sym (rw (points-done s 0 m i h) at (I .rest))
+
+-- ---- the one point near another
+
+abbrev meet : Precision → Point3 → ℕ → ℕ → Numbered Point3 → Outcome ℕ
+meet t q n h r = met (nearOf t q (r .it)) n h (r .place)
+
+-- of m points in a slice, i are met, and h is found
+pub record Meeting (t : Precision) (q : Point3) (s : List Float) (m h i : ℕ) : Type 0 where
+  pub upto : i ≤ m
+  pub rest : walk (meet t q m) h (drop i (numbered 0 (pointsAt s 0 m))) ≡ onlyIn t q (pointsAt s 0 m)
+
+pub meeting-start : (t : Precision) (q : Point3) (s : List Float) (m : ℕ) → Meeting t q s m m 0
+unfolding onlyIn
+meeting-start t q s m = record { upto = omega arith; rest = ap (λ n. walk (meet t q n) n (numbered 0 (pointsAt s 0 m))) (sym (length-pointsAt s 0 m)) }
+
+module _ {t : Precision} {q : Point3} {s : List Float} {m h i : ℕ} (I : Meeting t q s m h i) where
+  turning : i < m → walk (meet t q m) h (record { place = i; it = pointAt s (3 * i) } ∷ drop (i + 1) (numbered 0 (pointsAt s 0 m))) ≡ onlyIn t q (pointsAt s 0 m)
+  turning k = ap (walk (meet t q m) h) (sym (next-numbered s m i k)) ∙ I .rest
+
+  pub meeting-step : (c : Closeness) (p : Point3) (e : ℕ) → i < m → p ≡ pointAt s (3 * i) → c ≡ nearOf t q p → met c m h i ≡ ok e → Meeting t q s m e (i + 1)
+  meeting-step c p e k w n g =
+      let a : met (nearOf t q (pointAt s (3 * i))) m h i ≡ ok e = ap (λ z. met (nearOf t q z) m h i) (sym w) ∙ ap (λ z. met z m h i) (sym n) ∙ g in
+      record { upto = omega arith; rest = sym (walk-go (meet t q m) h _ _ e a) ∙ turning k }
+
+  pub meeting-stop : (c : Closeness) (p : Point3) (x : Refusal) → i < m → p ≡ pointAt s (3 * i) → c ≡ nearOf t q p → met c m h i ≡ refused x → onlyIn t q (pointsAt s 0 m) ≡ refused x
+  meeting-stop c p x k w n g =
+      let a : met (nearOf t q (pointAt s (3 * i))) m h i ≡ refused x = ap (λ z. met (nearOf t q z) m h i) (sym w) ∙ ap (λ z. met z m h i) (sym n) ∙ g in
+      sym (turning k) ∙ walk-stop (meet t q m) h _ _ x a
+
+  pub meeting-end : m ≤ i → onlyIn t q (pointsAt s 0 m) ≡ ok h
+  meeting-end k = sym (I .rest) ∙ ap (walk (meet t q m) h) (numbered-done s m i k) ∙ walk-end (meet t q m) h
+
+-- the search that was asked for
+pub search-first : (k : Pick) (t : Precision) (q : Point3) (l : List Point3) → k ≡ First → placeIn t q 0 l ≡ searchBy k t q l
+unfolding searchBy
+search-first k t q l e = rw e refl
+
+pub search-only : (k : Pick) (t : Precision) (q : Point3) (l : List Point3) → k ≡ Only → onlyIn t q l ≡ searchBy k t q l
+unfolding searchBy
+search-only k t q l e = rw e refl
 
 -- ---- one corner
 
@@ -122,7 +167,7 @@ more-ge m true = omega arith
 more-ge m false = omega arith
 
 -- of n corners at a place, j are taken
-pub record Taking (t : Precision) (s : List Float) (at n m₀ k : ℕ) (p₀ : List Float) (i₀ : List ℕ) (p : List Float) (i : List ℕ) (m j : ℕ) : Type 0 where
+pub record Taking (find : Search) (s : List Float) (at n m₀ k : ℕ) (p₀ : List Float) (i₀ : List ℕ) (p : List Float) (i : List ℕ) (m j : ℕ) : Type 0 where
   pub state : Places
   pub upto : j ≤ n
   pub count : m ≡ length (state .points)
@@ -131,10 +176,10 @@ pub record Taking (t : Precision) (s : List Float) (at n m₀ k : ℕ) (p₀ : L
   pub points : p ≡ sets p₀ 0 (floatsOf (state .points))
   pub places : i ≡ sets i₀ k (state .places)
   pub long : length (state .places) ≡ j
-  pub rest : walk (indexPoint t) state (drop j (pointsAt s at n)) ≡ indexPoints t (pointsAt p₀ 0 m₀) (pointsAt s at n)
+  pub rest : walk (indexPoint find) state (drop j (pointsAt s at n)) ≡ indexPoints find (pointsAt p₀ 0 m₀) (pointsAt s at n)
 
-pub taking-start : (t : Precision) (s : List Float) (at n m₀ k : ℕ) (p₀ : List Float) (i₀ : List ℕ) → Taking t s at n m₀ k p₀ i₀ p₀ i₀ m₀ 0
-taking-start t s at n m₀ k p₀ i₀ = record {
+pub taking-start : (find : Search) (s : List Float) (at n m₀ k : ℕ) (p₀ : List Float) (i₀ : List ℕ) → Taking find s at n m₀ k p₀ i₀ p₀ i₀ m₀ 0
+taking-start find s at n m₀ k p₀ i₀ = record {
   state = record { points = pointsAt p₀ 0 m₀; places = [] };
   upto = omega arith;
   count = sym (length-pointsAt p₀ 0 m₀);
@@ -146,8 +191,8 @@ taking-start t s at n m₀ k p₀ i₀ = record {
   rest = refl;
 }
 
-module _ {t : Precision} {s : List Float} {at n m₀ k : ℕ} {p₀ : List Float} {i₀ : List ℕ} {p : List Float} {i : List ℕ} {m j : ℕ}
-    (I : Taking t s at n m₀ k p₀ i₀ p i m j) (room : 3 * m₀ + 3 * n ≤ length p₀) where
+module _ {find : Search} {s : List Float} {at n m₀ k : ℕ} {p₀ : List Float} {i₀ : List ℕ} {p : List Float} {i : List ℕ} {m j : ℕ}
+    (I : Taking find s at n m₀ k p₀ i₀ p i m j) (room : 3 * m₀ + 3 * n ≤ length p₀) where
   pub taking-points : length p ≡ length p₀
   taking-points = ap length (I .points) ∙ length-sets p₀ 0 (floatsOf (I .state .points))
 
@@ -159,21 +204,21 @@ module _ {t : Precision} {s : List Float} {at n m₀ k : ℕ} {p₀ : List Float
       let h : 3 * length (I .state .points) ≤ length p₀ = omega (arith, I .count, I .few, I .upto) in
       ap (λ z. pointsAt z 0 m) (I .points) ∙ ap (pointsAt (sets p₀ 0 (floatsOf (I .state .points))) 0) (I .count) ∙ points-stored p₀ (I .state .points) h
 
-  turn : j < n → walk (indexPoint t) (I .state) (pointAt s (at + 3 * j) ∷ drop (j + 1) (pointsAt s at n)) ≡ indexPoints t (pointsAt p₀ 0 m₀) (pointsAt s at n)
+  turn : j < n → walk (indexPoint find) (I .state) (pointAt s (at + 3 * j) ∷ drop (j + 1) (pointsAt s at n)) ≡ indexPoints find (pointsAt p₀ 0 m₀) (pointsAt s at n)
   turn h = rw (next-point s at n j h) at (I .rest)
 
-  found : {q : Point3} {o : Outcome ℕ} → q ≡ pointAt s (at + 3 * j) → placeIn t q 0 (pointsAt p 0 m) ≡ o → placeIn t (pointAt s (at + 3 * j)) 0 (I .state .points) ≡ o
-  found {q} {o} e h = ap (λ z. placeIn t z 0 (I .state .points)) (sym e) ∙ ap (placeIn t q 0) (sym held) ∙ h
+  found : {q : Point3} {o : Outcome ℕ} → q ≡ pointAt s (at + 3 * j) → find q (pointsAt p 0 m) ≡ o → find (pointAt s (at + 3 * j)) (I .state .points) ≡ o
+  found {q} {o} e h = ap (λ z. find z (I .state .points)) (sym e) ∙ ap (find q) (sym held) ∙ h
 
   pub taking-step : (q : Point3) (p′ : List Float) (i′ : List ℕ) (e : ℕ) (r : Counted) → j < n → q ≡ pointAt s (at + 3 * j) → r ≡ C.Made e →
-      Pointed (placeIn t q 0 (pointsAt p 0 m)) m (k + j) q p i p′ i′ r → Taking t s at n m₀ k p₀ i₀ p′ i′ e (j + 1)
+      Pointed (find q (pointsAt p 0 m)) m (k + j) q p i p′ i′ r → Taking find s at n m₀ k p₀ i₀ p′ i′ e (j + 1)
   unfolding indexPoint
   taking-step q p′ i′ e r h w g f =
-      let z = pointed-made (placeIn t q 0 (pointsAt p 0 m)) m (k + j) q p i p′ i′ r e f g in
+      let z = pointed-made (find q (pointsAt p 0 m)) m (k + j) q p i p′ i′ r e f g in
       let x = z .0 in
       let S = I .state in
       let b : eqb x m ≡ eqb x (length (S .points)) = ap (eqb x) (I .count) in
-      let a : indexPoint t S (pointAt s (at + 3 * j)) ≡ ok (placed S (pointAt s (at + 3 * j)) x) = go (placeIn t (pointAt s (at + 3 * j)) 0 (S .points)) _ x (found w (z .1)) in
+      let a : indexPoint find S (pointAt s (at + 3 * j)) ≡ ok (placed S (pointAt s (at + 3 * j)) x) = go (find (pointAt s (at + 3 * j)) (S .points)) _ x (found w (z .1)) in
       record {
         state = placed S (pointAt s (at + 3 * j)) x;
         upto = omega arith;
@@ -184,23 +229,23 @@ module _ {t : Precision} {s : List Float} {at n m₀ k : ℕ} {p₀ : List Float
             ∙ joined-floats p₀ (S .points) (pointAt s (at + 3 * j)) (eqb x (length (S .points))) m (I .count);
         places = z .4 ∙ ap (λ y. set y (k + j) x) (I .places) ∙ place-more i₀ k (S .places) j x (I .long);
         long = length-append (S .places) (x ∷ []) ∙ omega (arith, I .long);
-        rest = sym (walk-go (indexPoint t) S _ _ _ a) ∙ turn h;
+        rest = sym (walk-go (indexPoint find) S _ _ _ a) ∙ turn h;
       }
 
   pub taking-stop : (q : Point3) (p′ : List Float) (i′ : List ℕ) (x : Refusal) (r r′ : Counted) → j < n → q ≡ pointAt s (at + 3 * j) → r ≡ C.Refused x → r′ ≡ C.Refused x →
-      Pointed (placeIn t q 0 (pointsAt p 0 m)) m (k + j) q p i p′ i′ r → Placed (indexPoints t (pointsAt p₀ 0 m₀) (pointsAt s at n)) m₀ n k p₀ i₀ p′ i′ r′
+      Pointed (find q (pointsAt p 0 m)) m (k + j) q p i p′ i′ r → Placed (indexPoints find (pointsAt p₀ 0 m₀) (pointsAt s at n)) m₀ n k p₀ i₀ p′ i′ r′
   unfolding indexPoint Placed
   taking-stop q p′ i′ x r r′ h w g g′ f =
-      let z = pointed-not (placeIn t q 0 (pointsAt p 0 m)) m (k + j) q p i p′ i′ r x f g in
-      let a : indexPoint t (I .state) (pointAt s (at + 3 * j)) ≡ refused x = stop (placeIn t (pointAt s (at + 3 * j)) 0 (I .state .points)) _ x (found w (z .0)) in
-      let o : indexPoints t (pointsAt p₀ 0 m₀) (pointsAt s at n) ≡ refused x = sym (turn h) ∙ walk-stop (indexPoint t) (I .state) _ _ x a in
+      let z = pointed-not (find q (pointsAt p 0 m)) m (k + j) q p i p′ i′ r x f g in
+      let a : indexPoint find (I .state) (pointAt s (at + 3 * j)) ≡ refused x = stop (find (pointAt s (at + 3 * j)) (I .state .points)) _ x (found w (z .0)) in
+      let o : indexPoints find (pointsAt p₀ 0 m₀) (pointsAt s at n) ≡ refused x = sym (turn h) ∙ walk-stop (indexPoint find) (I .state) _ _ x a in
       subst (λ y. Placed y m₀ n k p₀ i₀ p′ i′ r′) (sym o) (g′, z .1 ∙ taking-points, z .2 ∙ taking-places)
 
-  pub taking-end : (r : Counted) → n ≤ j → r ≡ C.Made m → Placed (indexPoints t (pointsAt p₀ 0 m₀) (pointsAt s at n)) m₀ n k p₀ i₀ p i r
+  pub taking-end : (r : Counted) → n ≤ j → r ≡ C.Made m → Placed (indexPoints find (pointsAt p₀ 0 m₀) (pointsAt s at n)) m₀ n k p₀ i₀ p i r
   unfolding Placed
   taking-end r h g =
-      let e : walk (indexPoint t) (I .state) [] ≡ indexPoints t (pointsAt p₀ 0 m₀) (pointsAt s at n) = rw (points-done s at n j h) at (I .rest) in
-      let o : indexPoints t (pointsAt p₀ 0 m₀) (pointsAt s at n) ≡ ok (I .state) = sym e ∙ walk-end (indexPoint t) (I .state) in
+      let e : walk (indexPoint find) (I .state) [] ≡ indexPoints find (pointsAt p₀ 0 m₀) (pointsAt s at n) = rw (points-done s at n j h) at (I .rest) in
+      let o : indexPoints find (pointsAt p₀ 0 m₀) (pointsAt s at n) ≡ ok (I .state) = sym e ∙ walk-end (indexPoint find) (I .state) in
       subst (λ y. Placed y m₀ n k p₀ i₀ p i r) (sym o) (g ∙ ap C.Made (I .count), omega (arith, I .count, I .grown), omega (arith, I .count, I .few, I .upto), I .long ∙ omega (arith, I .upto), I .points, I .places)
 
 -- ---- the faces of a cell
@@ -219,26 +264,13 @@ unfolding Placed
 placed-not (ok s) m n k p₀ i₀ p i r x h g = absurd (let a = h .0 in let z : _≡_ {A = ℕ} 0 1 = cc in omega arith)
 placed-not (refused y) m n k p₀ i₀ p i r x h g = (let a = h .0 in let b : y ≡ x = cc in ap refused b, h .1, h .2)
 
--- a run of stores over another that is no longer
-sets-set {ℓ} : {A : Type ℓ} (l : List A) (i k : ℕ) (x : A) (v : List A) → i < k → sets (set l i x) k v ≡ set (sets l k v) i x
-sets-set l i k x [] h = refl
-sets-set l i k x (y ∷ v) h = ap (λ z. sets z (suc k) v) (set-comm l i k x y (λ e. omega arith)) ∙ sets-set (set l k y) i (suc k) x v (omega arith)
-
-sets-over {ℓ} : {A : Type ℓ} (l : List A) (i : ℕ) (a b : List A) → length a ≤ length b → sets (sets l i a) i b ≡ sets l i b
-sets-over l i [] b h = refl
-sets-over l i (x ∷ a) [] h = absurd (not-suc-le-zero h)
-sets-over l i (x ∷ a) (y ∷ b) h =
-    ap (λ z. sets (set z i y) (suc i) b) (sets-set l i (suc i) x a (omega arith))
-    ∙ ap (λ z. sets z (suc i) b) (set-set (sets l (suc i) a) i x y ∙ sym (sets-set l i (suc i) y a (omega arith)))
-    ∙ sets-over (set l i y) (suc i) a b (le-of-suc-le-suc h)
-
-flat-snoc : (l : List (List ℕ)) (f : List ℕ) → flat (l ++ (f ∷ [])) ≡ flat l ++ f
+pub flat-snoc : (l : List (List ℕ)) (f : List ℕ) → flat (l ++ (f ∷ [])) ≡ flat l ++ f
 unfolding flat
 flat-snoc [] f = append-nil f
 flat-snoc (g ∷ l) f = ap (λ z. g ++ z) (flat-snoc l f) ∙ sym (append-assoc g (flat l) f)
 
 -- of the n faces of a cell, j are done, with k corners and m points
-pub record Walking (t : Precision) (s : List Float) (at : ℕ) (counts : List ℕ) (first n : ℕ) (p₀ : List Float) (i₀ : List ℕ) (p : List Float) (i : List ℕ) (m k o j : ℕ) : Type 0 where
+pub record Walking (find : Search) (s : List Float) (at : ℕ) (counts : List ℕ) (first n : ℕ) (p₀ : List Float) (i₀ : List ℕ) (p : List Float) (i : List ℕ) (m k o j : ℕ) : Type 0 where
   pub state : Solid
   pub upto : j ≤ n
   pub count : m ≡ length (state .points)
@@ -249,12 +281,12 @@ pub record Walking (t : Precision) (s : List Float) (at : ℕ) (counts : List �
   pub points : p ≡ sets p₀ 0 (floatsOf (state .points))
   pub places : i ≡ sets i₀ 0 (flat (state .faces))
   pub long : length (flat (state .faces)) ≡ k
-  pub rest : walk (indexFace t) state (cellAt s o (drop j (countsAt counts first n))) ≡ indexed t (cellAt s at (countsAt counts first n))
+  pub rest : walk (indexFace find) state (cellAt s o (drop j (countsAt counts first n))) ≡ indexFaces find (cellAt s at (countsAt counts first n))
 
-pub walking-start : (t : Precision) (s : List Float) (at : ℕ) (counts : List ℕ) (first n : ℕ) (p₀ : List Float) (i₀ : List ℕ) → Fits s counts at first n p₀ i₀ →
-    Walking t s at counts first n p₀ i₀ p₀ i₀ 0 0 at 0
-unfolding indexed flat
-walking-start t s at counts first n p₀ i₀ f = record {
+pub walking-start : (find : Search) (s : List Float) (at : ℕ) (counts : List ℕ) (first n : ℕ) (p₀ : List Float) (i₀ : List ℕ) → Fits s counts at first n p₀ i₀ →
+    Walking find s at counts first n p₀ i₀ p₀ i₀ 0 0 at 0
+unfolding flat
+walking-start find s at counts first n p₀ i₀ f = record {
   state = record { points = []; faces = [] };
   upto = omega arith;
   count = refl;
@@ -275,8 +307,8 @@ pub record Asked (s : List Float) (p : List Float) (i : List ℕ) (m k o c : ℕ
   pub places : k + c ≤ length i
   pub all : 3 * (k + c) ≤ length s
 
-module _ {t : Precision} {s : List Float} {at : ℕ} {counts : List ℕ} {first n : ℕ} {p₀ : List Float} {i₀ : List ℕ} {p : List Float} {i : List ℕ} {m k o j : ℕ}
-    (I : Walking t s at counts first n p₀ i₀ p i m k o j) (fits : Fits s counts at first n p₀ i₀) where
+module _ {find : Search} {s : List Float} {at : ℕ} {counts : List ℕ} {first n : ℕ} {p₀ : List Float} {i₀ : List ℕ} {p : List Float} {i : List ℕ} {m k o j : ℕ}
+    (I : Walking find s at counts first n p₀ i₀ p i m k o j) (fits : Fits s counts at first n p₀ i₀) where
   pub walking-points : length p ≡ length p₀
   walking-points = ap length (I .points) ∙ length-sets p₀ 0 (floatsOf (I .state .points))
 
@@ -311,22 +343,22 @@ module _ {t : Precision} {s : List Float} {at : ℕ} {counts : List ℕ} {first 
       let h : 3 * length (I .state .points) ≤ length p₀ = omega (arith, I .count, I .few, I .left, fits .points) in
       ap (λ z. pointsAt z 0 m) (I .points) ∙ ap (pointsAt (sets p₀ 0 (floatsOf (I .state .points))) 0) (I .count) ∙ points-stored p₀ (I .state .points) h
 
-  turn′ : j < n → walk (indexFace t) (I .state) (faceAt s o (getD counts (first + j) 0) ∷ cellAt s (o + 12 + 3 * getD counts (first + j) 0) (drop (j + 1) (countsAt counts first n))) ≡ indexed t (cellAt s at (countsAt counts first n))
-  turn′ h = ap (walk (indexFace t) (I .state)) (sym (face h)) ∙ I .rest
+  turn′ : j < n → walk (indexFace find) (I .state) (faceAt s o (getD counts (first + j) 0) ∷ cellAt s (o + 12 + 3 * getD counts (first + j) 0) (drop (j + 1) (countsAt counts first n))) ≡ indexFaces find (cellAt s at (countsAt counts first n))
+  turn′ h = ap (walk (indexFace find) (I .state)) (sym (face h)) ∙ I .rest
 
-  faced : {z : Outcome Places} (c : ℕ) → indexPoints t (pointsAt p 0 m) (pointsAt s (o + 12) c) ≡ z → indexPoints t (I .state .points) (pointsAt s (o + 12) c) ≡ z
-  faced c e = ap (λ l. indexPoints t l (pointsAt s (o + 12) c)) (sym held′) ∙ e
+  faced : {z : Outcome Places} (c : ℕ) → indexPoints find (pointsAt p 0 m) (pointsAt s (o + 12) c) ≡ z → indexPoints find (I .state .points) (pointsAt s (o + 12) c) ≡ z
+  faced c e = ap (λ l. indexPoints find l (pointsAt s (o + 12) c)) (sym held′) ∙ e
 
   pub walking-step : (p′ : List Float) (i′ : List ℕ) (e : ℕ) (r : Counted) → j < n → r ≡ C.Made e →
-      Placed (indexPoints t (pointsAt p 0 m) (pointsAt s (o + 12) (getD counts (first + j) 0))) m (getD counts (first + j) 0) k p i p′ i′ r →
-      Walking t s at counts first n p₀ i₀ p′ i′ e (k + getD counts (first + j) 0) (o + (12 + 3 * getD counts (first + j) 0)) (j + 1)
+      Placed (indexPoints find (pointsAt p 0 m) (pointsAt s (o + 12) (getD counts (first + j) 0))) m (getD counts (first + j) 0) k p i p′ i′ r →
+      Walking find s at counts first n p₀ i₀ p′ i′ e (k + getD counts (first + j) 0) (o + (12 + 3 * getD counts (first + j) 0)) (j + 1)
   unfolding indexFace
   walking-step p′ i′ e r h g f =
       let c = getD counts (first + j) 0 in
-      let z = placed-made (indexPoints t (pointsAt p 0 m) (pointsAt s (o + 12) c)) m c k p i p′ i′ r e f g in
+      let z = placed-made (indexPoints find (pointsAt p 0 m) (pointsAt s (o + 12) c)) m c k p i p′ i′ r e f g in
       let S = I .state in
       let P = z .0 in
-      let a : indexFace t S (faceAt s o c) ≡ ok (withFace S P) = go (indexPoints t (S .points) (pointsAt s (o + 12) c)) _ P (faced c (z .1)) in
+      let a : indexFace find S (faceAt s o c) ≡ ok (withFace S P) = go (indexPoints find (S .points) (pointsAt s (o + 12) c)) _ P (faced c (z .1)) in
       let u : o + 12 + 3 * c ≡ o + (12 + 3 * c) = omega arith in
       let q : length (floatsOf (S .points)) ≤ length (floatsOf (P .points)) = omega (arith, length-floatsOf (S .points), length-floatsOf (P .points), I .count, z .2, z .3) in
       let lf = lefts h in
@@ -342,23 +374,34 @@ module _ {t : Precision} {s : List Float} {at : ℕ} {counts : List ℕ} {first 
         places = z .7 ∙ ap (λ y. sets y k (P .places)) (I .places) ∙ ap (λ y. sets (sets i₀ 0 (flat (S .faces))) y (P .places)) (sym (I .long) ∙ omega arith)
             ∙ sets-append i₀ 0 (flat (S .faces)) (P .places) ∙ ap (sets i₀ 0) (sym (flat-snoc (S .faces) (P .places)));
         long = ap length (flat-snoc (S .faces) (P .places)) ∙ length-append (flat (S .faces)) (P .places) ∙ omega (arith, I .long, z .5);
-        rest = ap (λ y. walk (indexFace t) (withFace S P) (cellAt s y (drop (j + 1) (countsAt counts first n)))) (sym u) ∙ sym (walk-go (indexFace t) S _ _ _ a) ∙ turn′ h;
+        rest = ap (λ y. walk (indexFace find) (withFace S P) (cellAt s y (drop (j + 1) (countsAt counts first n)))) (sym u) ∙ sym (walk-go (indexFace find) S _ _ _ a) ∙ turn′ h;
       }
 
   pub walking-stop : (p′ : List Float) (i′ : List ℕ) (x : Refusal) (r : Counted) → j < n → r ≡ C.Refused x →
-      Placed (indexPoints t (pointsAt p 0 m) (pointsAt s (o + 12) (getD counts (first + j) 0))) m (getD counts (first + j) 0) k p i p′ i′ r →
-      Stored (indexed t (cellAt s at (countsAt counts first n))) p₀ i₀ p′ i′ r
+      Placed (indexPoints find (pointsAt p 0 m) (pointsAt s (o + 12) (getD counts (first + j) 0))) m (getD counts (first + j) 0) k p i p′ i′ r →
+      Stored (indexFaces find (cellAt s at (countsAt counts first n))) p₀ i₀ p′ i′ r
   unfolding indexFace Stored
   walking-stop p′ i′ x r h g f =
       let c = getD counts (first + j) 0 in
-      let z = placed-not (indexPoints t (pointsAt p 0 m) (pointsAt s (o + 12) c)) m c k p i p′ i′ r x f g in
-      let a : indexFace t (I .state) (faceAt s o c) ≡ refused x = stop (indexPoints t (I .state .points) (pointsAt s (o + 12) c)) _ x (faced c (z .0)) in
-      let y : indexed t (cellAt s at (countsAt counts first n)) ≡ refused x = sym (turn′ h) ∙ walk-stop (indexFace t) (I .state) _ _ x a in
+      let z = placed-not (indexPoints find (pointsAt p 0 m) (pointsAt s (o + 12) c)) m c k p i p′ i′ r x f g in
+      let a : indexFace find (I .state) (faceAt s o c) ≡ refused x = stop (indexPoints find (I .state .points) (pointsAt s (o + 12) c)) _ x (faced c (z .0)) in
+      let y : indexFaces find (cellAt s at (countsAt counts first n)) ≡ refused x = sym (turn′ h) ∙ walk-stop (indexFace find) (I .state) _ _ x a in
       subst (λ w. Stored w p₀ i₀ p′ i′ r) (sym y) (g, z .1 ∙ walking-points, z .2 ∙ walking-places)
 
-  pub walking-end : (r : Counted) → n ≤ j → r ≡ C.Made m → Stored (indexed t (cellAt s at (countsAt counts first n))) p₀ i₀ p i r
+  pub walking-end : (r : Counted) → n ≤ j → r ≡ C.Made m → Stored (indexFaces find (cellAt s at (countsAt counts first n))) p₀ i₀ p i r
   unfolding Stored
   walking-end r h g =
       let d : cellAt s o (drop j (countsAt counts first n)) ≡ [] = ap (cellAt s o) (counts-done counts first n j h) ∙ cell-none s o in
-      let y : indexed t (cellAt s at (countsAt counts first n)) ≡ ok (I .state) = sym (I .rest) ∙ ap (walk (indexFace t) (I .state)) d ∙ walk-end (indexFace t) (I .state) in
+      let y : indexFaces find (cellAt s at (countsAt counts first n)) ≡ ok (I .state) = sym (I .rest) ∙ ap (walk (indexFace find) (I .state)) d ∙ walk-end (indexFace find) (I .state) in
       subst (λ w. Stored w p₀ i₀ p i r) (sym y) (g ∙ ap C.Made (I .count), I .points, I .places)
+
+-- the lengths stay
+pub stored-points : (o : Outcome Solid) (p₀ : List Float) (i₀ : List ℕ) (p : List Float) (i : List ℕ) (r : Counted) → Stored o p₀ i₀ p i r → length p ≡ length p₀
+unfolding Stored
+stored-points (ok s) p₀ i₀ p i r h = ap length (h .1) ∙ length-sets p₀ 0 (floatsOf (s .points))
+stored-points (refused x) p₀ i₀ p i r h = h .1
+
+pub stored-places : (o : Outcome Solid) (p₀ : List Float) (i₀ : List ℕ) (p : List Float) (i : List ℕ) (r : Counted) → Stored o p₀ i₀ p i r → length i ≡ length i₀
+unfolding Stored
+stored-places (ok s) p₀ i₀ p i r h = ap length (h .2) ∙ length-sets i₀ 0 (flat (s .faces))
+stored-places (refused x) p₀ i₀ p i r h = h .2

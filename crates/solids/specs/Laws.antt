@@ -2,11 +2,9 @@
 use mathlib.Core.Path.{_≡_, refl, sym, ap, _∙_}
 use mathlib.Core.Bool.{Bool, true, false, _||_}
 use mathlib.Core.List.{List, [], _∷_}
-use Prim.Native.Nat.{ℕ, zero, suc, _+_, _*_, _≤_, _<_}
+use Prim.Native.Nat.{ℕ, _+_, _*_, _≤_, _<_}
 use native.Mathlib.Omega.{arith}
-use native.Mathlib.Nat.{not-suc-le-zero, le-of-suc-le-suc}
-use native.Mathlib.Numerals.{add-one}
-use lib.ListN.{length, take, drop, getD, drop-of-length-le}
+use lib.ListN.{length, take, drop, getD}
 use lib.Dec.{eqb}
 use lib.Ieee.{Float}
 use Rattle.refusal.specs.declared.Refusal.{Refusal}
@@ -14,7 +12,7 @@ use Rattle.refusal.specs.declared.Verdict.{Verdict}
 use Rattle.refusal.specs.declared.Verdict.the-variants as D
 use Rattle.refusal.specs.Outcome.{Outcome, ok, refused, walk}
 use Rattle.refusal.specs.Laws.{walk-go, walk-stop, walk-end}
-use Rattle.lists.specs.Walks.{Numbered, numbered}
+use Rattle.lists.specs.Walks.{numbered}
 use Rattle.space.specs.declared.Point3.{Point3}
 use Rattle.space.specs.declared.Plane.{Plane}
 use Rattle.space.specs.declared.Precision.{Precision}
@@ -23,7 +21,8 @@ use Rattle.side.specs.declared.Side.{Side}
 use Rattle.side.specs.Sides.{sideOf}
 use Rattle.polygon.specs.Memory.{pointAt, pointsAt}
 use Rattle.room.specs.Rooms.{countsAt}
-use Rattle.room.specs.Laws.{next-point, points-done, next-count, counts-done, point-of, length-pointsAt}
+use Rattle.room.specs.Laws.{next-point, points-done, next-count, counts-done}
+use Rattle.room.specs.Numbered.{next-numbered, numbered-done}
 use Rattle.solids.specs.Apart.{firstOf, eachIn, notNear, apartFrom, apartAll}
 use Rattle.solids.specs.Sides.{has, judgeSide, pointSide, someBelow, faceSides}
 
@@ -92,31 +91,6 @@ has-end x b l k n i h = ap (has x b) (counts-done l k n i h)
 
 -- ---- the points against a face
 
-abbrev tagged : {A : Type 0} → ℕ → A → Numbered A
-tagged p x = record { place = p; it = x }
-
-along : {A : Type 0} (l : List A) (k i : ℕ) (d : A) → i < length l → drop i (numbered k l) ≡ record { place = k + i; it = getD l i d } ∷ drop (suc i) (numbered k l)
-unfolding numbered
-along [] k i d h = absurd (not-suc-le-zero h)
-along (x ∷ l) k zero d h = ap (λ p. tagged p (x) ∷ (numbered (suc k) l)) (omega arith)
-along (x ∷ l) k (suc i) d h =
-    along l (suc k) i d (le-of-suc-le-suc h) ∙ ap (λ p. tagged p (getD l i d) ∷ (drop (suc i) (numbered (suc k) l))) (omega arith)
-
-length-numbered : {A : Type 0} (l : List A) (k : ℕ) → length (numbered k l) ≡ length l
-unfolding numbered
-length-numbered [] k = refl
-length-numbered (x ∷ l) k = ap suc (length-numbered l (suc k))
-
--- the point at place x of m, and the rest
-next-numbered : (s : List Float) (m x : ℕ) → x < m → drop x (numbered 0 (pointsAt s 0 m)) ≡ record { place = x; it = pointAt s (3 * x) } ∷ drop (x + 1) (numbered 0 (pointsAt s 0 m))
-next-numbered s m x h =
-    let l = pointsAt s 0 m in
-    let k : x < length (pointsAt s 0 m) = omega (arith, length-pointsAt s 0 m) in
-    along (pointsAt s 0 m) 0 x (pointAt s 0) k
-    ∙ ap (λ p. tagged p (getD (pointsAt s 0 m) x (pointAt s 0)) ∷ (drop (suc x) (numbered 0 (pointsAt s 0 m)))) (omega arith)
-    ∙ ap (λ q. tagged x (q) ∷ (drop (suc x) (numbered 0 (pointsAt s 0 m)))) (point-of s 0 m x (pointAt s 0) h ∙ at-zero s x)
-    ∙ ap (λ j. tagged x (pointAt s (3 * x)) ∷ (drop j (numbered 0 (pointsAt s 0 m)))) (sym (add-one x))
-
 -- of m points, x are judged
 pub record Judged (t : Precision) (w : Plane) (f : List ℕ) (s : List Float) (m : ℕ) (b : Bool) (x : ℕ) : Type 0 where
   pub upto : x ≤ m
@@ -140,6 +114,4 @@ module _ {t : Precision} {w : Plane} {f : List ℕ} {s : List Float} {m : ℕ} {
 
   pub judged-end : m ≤ x → faceSides t w f (pointsAt s 0 m) ≡ someBelow (ok b)
   unfolding faceSides
-  judged-end h =
-      let k : length (numbered 0 (pointsAt s 0 m)) ≤ x = omega (arith, length-numbered (pointsAt s 0 m) 0, length-pointsAt s 0 m) in
-      ap someBelow (sym (I .rest) ∙ ap (walk (pointSide t w f) b) (drop-of-length-le (numbered 0 (pointsAt s 0 m)) k) ∙ walk-end (pointSide t w f) b)
+  judged-end h = ap someBelow (sym (I .rest) ∙ ap (walk (pointSide t w f) b) (numbered-done s m x h) ∙ walk-end (pointSide t w f) b)

@@ -1,15 +1,16 @@
 use borrow.Author.Needs.{needs}
 use mathlib.Core.Path.{refl, _∙_}
 use Prim.Native.Nat.{_-_}
+use Rattle.indexed.specs.Indexed.{searchBy}
 use Rattle.indexed.specs.Laws.{Taking, taking-start, taking-points, taking-places, taking-step, taking-stop, taking-end, pointed-not}
 use Rattle.indexed.proofs.index_face.Statement.{statement}
 use Rattle.indexed.proofs.index_face.Tie as tie
 
 abbrev Inv-loop : tie.InvT-loop
-Inv-loop t s at n points₀ m places₀ k c₀ j₀ points places c j = Taking t s at n m k points₀ places₀ points places c j
+Inv-loop pick t s at n points₀ m places₀ k c₀ j₀ points places c j = Taking (searchBy pick t) s at n m k points₀ places₀ points places c j
 
 abbrev μ-loop : tie.MeasureT-loop
-μ-loop t s at n points₀ m places₀ k c₀ j₀ points places c j = n - j
+μ-loop pick t s at n points₀ m places₀ k c₀ j₀ points places c j = n - j
 
 loop-holds : tie.Need-loop-holds Inv-loop μ-loop
 loop-holds c = taking-start _ _ _ _ _ _ _ _

@@ -6,8 +6,8 @@ use Rattle.indexed.specs.Laws.{pointed-ok, pointed-refused}
 use Rattle.indexed.proofs.index_point.Statement.{statement}
 use Rattle.indexed.proofs.index_point.Tie as tie
 
-place-of-requires : tie.Need-place-of-requires
-place-of-requires c κs = search needs
+find-requires : tie.Need-find-requires
+find-requires c κs = search needs
 
 enum-known-found : tie.Need-enum-known-found
 enum-known-found c = search needs
@@ -22,7 +22,7 @@ returns : tie.Need-returns
 unfolding counted
 returns c =
     let e = c .enum-told .given .1 in
-    pointed-refused _ _ _ _ _ _ _ _ _ _ (sym (c .before .before .place-of .ensures) ∙ ap counted e) e refl refl
+    pointed-refused _ _ _ _ _ _ _ _ _ _ (sym (c .before .before .find .ensures) ∙ ap counted e) e refl refl
 
 mul-places : tie.Need-mul-places
 mul-places c = search needs
@@ -43,13 +43,13 @@ returns-2 : tie.Need-returns-2
 unfolding counted
 returns-2 c =
     let F = c .before .before .before .before .before in
-    pointed-ok _ _ _ _ _ _ _ _ _ _ (sym (F .before .before .place-of .ensures) ∙ ap counted (F .found .given .1)) (ap C.Made (c .before .before .join .ensures .0)) (c .before .before .join .ensures .1) refl
+    pointed-ok _ _ _ _ _ _ _ _ _ _ (sym (F .before .before .find .ensures) ∙ ap counted (F .found .given .1)) (ap C.Made (c .before .before .join .ensures .0)) (c .before .before .join .ensures .1) refl
 
 pub index-point-spec : {M : Type 1} → statement M
 index-point-spec =
     tie.close
     (tie.spec
-    place-of-requires
+    find-requires
     enum-known-found
     enum-told
     same-length
