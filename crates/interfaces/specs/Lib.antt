@@ -1,0 +1,3 @@
+pub mod Facets
+pub mod Meeting
+pub mod Steps
