@@ -75,7 +75,7 @@ module _ (v starts owners k o : List ℕ) (f : ℕ) (q : Ordered k starts f o) w
     two-second m s e = place-in k starts f o q (p + 1) (two-next m s e)
 
     pub two-room : (m : ℕ) → Sized (rows k starts f) p m → m ≡ 2 → 2 * b + 1 < length d
-    two-room m s e = omega (arith, two-next m s e, w .half, w .roomD, many-order k starts f)
+    two-room m s e = omega (arith, two-next m s e, w .judged .half, w .judged .room, many-order k starts f)
 
     pub two-read : (m : ℕ) → Sized (rows k starts f) p m → m ≡ 2 → p + 1 < length o
     two-read m s e = omega (arith, two-next m s e, q .room)
@@ -84,7 +84,7 @@ module _ (v starts owners k o : List ℕ) (f : ℕ) (q : Ordered k starts f o) w
     two-end m s e = omega (arith, two-next m s e)
 
     pub two-half : b ≤ p
-    two-half = omega (arith, w .half)
+    two-half = omega (arith, w .judged .half)
 
     pub turn-two : (m : ℕ) (r : Verdict) (d′ : List ℕ) (n : Met) → Sized (rows k starts f) p m → m ≡ 2 →
         heard r tt ≡ judgeUsers (facetsOf v starts owners f) (getD o p 0 ∷ getD o (p + 1) 0 ∷ []) →
