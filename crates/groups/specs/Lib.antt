@@ -3,3 +3,4 @@ pub mod Stack
 pub mod Walk
 pub mod Groups
 pub mod Fill
+pub mod Ends

@@ -3,3 +3,4 @@ pub mod Lex
 pub mod Put
 pub mod Sort
 pub mod Each
+pub mod Sized

@@ -16,7 +16,7 @@ unfolding sum
 swap w [] n = sym (full-zero (λ _. 0) n (λ i h. refl))
 swap w (p ∷ l) n = omega (arith, swap w l n, full-add (w p) (λ i. sum (λ p. w p i) l) n)
 
-ones : (n : ℕ) → full (λ _. 1) n ≡ n
+pub ones : (n : ℕ) → full (λ _. 1) n ≡ n
 unfolding full
 ones zero = refl
 ones (suc n) = omega (arith, ones n)

@@ -7,3 +7,4 @@ pub mod ComponentLaws
 pub mod MeetLaws
 pub mod CountLaws
 pub mod RunLaws
+pub mod SizeLaws

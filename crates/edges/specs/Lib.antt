@@ -1,0 +1,4 @@
+pub mod Laid
+pub mod Rims
+pub mod Pairing
+pub mod Whole

@@ -1,0 +1,4 @@
+pub mod Facets
+pub mod Runs
+pub mod Meeting
+pub mod Steps
