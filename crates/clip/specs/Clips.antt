@@ -13,6 +13,7 @@ use Rattle.space.specs.declared.Plane.{Plane}
 use Rattle.space.specs.declared.Precision.{Precision}
 use Rattle.space.specs.Shapes.{Face, Cell, Part, nothing, part, corners}
 use Rattle.polygon.specs.Memory.{pointsAt}
+use Rattle.polygon.specs.Members.{All}
 use Rattle.room.specs.Rooms.{cellFloats, cellCounts, countsAt, Within, Small}
 use Rattle.cell.specs.declared.Kept.{Kept}
 use Rattle.cell.specs.Cells.{Stored}
@@ -61,6 +62,10 @@ pub record Gone (room : ℕ) (d : List Float) (at : ℕ) (n : List ℕ) (k : ℕ
 pub record Given (src : List Float) (from : ℕ) (sizes : List ℕ) (j faces : ℕ) : Type 0 where
   pub listed : j + faces ≤ length sizes
   pub within : Within (countsAt sizes j faces) from (length src)
+
+-- every face has at least three corners
+abbrev pub Wide : Cell → Type 0
+Wide c = All (λ f. 3 ≤ length (f .points)) c
 
 -- what the slices behind the hull hold
 pub record Hulls (flat : List Float) (order chain : List ℕ) : Type 0 where

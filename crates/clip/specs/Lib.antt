@@ -2,3 +2,4 @@ pub mod Cuts
 pub mod Theorem
 pub mod Clips
 pub mod Laws
+pub mod Bounds

@@ -323,7 +323,7 @@ module _ (t : Precision) (room : ℕ) (w : Plane) (c : Cell) where
         ∙ ap (λ n. clipBy t room w c n (g .0 .positive)) (signs-none t w c (g .0) (g .1) a)),
   )
 
-  part-of : (d : Cell) → clip t room w c ≡ ok (part d) → (NonePositive t w c × (d ≡ c)) ⊎ (cutCell t room w c ≡ ok d)
+  pub part-of : (d : Cell) → clip t room w c ≡ ok (part d) → (NonePositive t w c × (d ≡ c)) ⊎ (cutCell t room w c ≡ ok d)
   unfolding clip
   part-of d e =
       let g = then-ok (signsOf t w c) (λ s. clipBy t room w c (s .negative) (s .positive)) (part d) e in
