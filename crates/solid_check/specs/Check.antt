@@ -46,3 +46,12 @@ check counted t s =
 unfoldable pub stored : Outcome Cell → List Float → List Float
 stored (ok c) l = sets l 0 (cellFloats c)
 stored (refused r) l = l
+
+-- the faces up to the first that has no plane; a checked solid has one for each
+unfoldable pub kept : Outcome Face → Cell → Cell
+kept (ok f) c = f ∷ c
+kept (refused r) c = []
+
+unfoldable pub framed : Precision → List Point3 → List (List ℕ) → Cell
+framed t ps [] = []
+framed t ps (f ∷ fs) = kept (faceOf t ps f) (framed t ps fs)

@@ -4,7 +4,8 @@ use mathlib.Core.Bool.{Bool, true, false, not, _&&_}
 use mathlib.Core.List.{List, [], _∷_, _++_, append-nil, append-assoc, map}
 use Prim.Native.Nat.{ℕ, zero, suc, _+_, _*_, _≤_, _<_}
 use native.Mathlib.Omega.{arith}
-use lib.ListN.{length, take, drop, getD, length-take, length-drop}
+use lib.ListN.{length, take, drop, getD, length-take, length-drop, length-map}
+use lib.Seq.{sets}
 use lib.Ieee.{Float}
 use Rattle.refusal.specs.declared.Refusal.{Refusal}
 use Rattle.refusal.specs.declared.Verdict.{Verdict}
@@ -16,7 +17,9 @@ use Rattle.space.specs.declared.Plane.{Plane}
 use Rattle.space.specs.declared.Precision.{Precision}
 use Rattle.space.specs.Shapes.{Face, Cell, Solid}
 use Rattle.polygon.specs.Memory.{pointsAt}
-use Rattle.room.specs.Rooms.{countsAt}
+use Rattle.polygon.specs.Members.{same-ok, never-ok}
+use Rattle.room.specs.Rooms.{countsAt, cellFloats, cellCounts}
+use Rattle.room.specs.Steps.{unless-ok}
 use Rattle.room.specs.Laws.{length-pointsAt}
 use Rattle.solids.specs.Apart.{firstOf, eachIn}
 use Rattle.solids.specs.Frames.{pointOf, planeFor, facesAt, framedAll, Placing}
@@ -24,18 +27,7 @@ use Rattle.solids.specs.Faces.{placing-le}
 use Rattle.solids.specs.Order.{fairAll, countedAll, shaped}
 use Rattle.topology.specs.Topology.{sound}
 use Rattle.topology.specs.Sound.{faces-many}
-use Rattle.solid_check.specs.Check.{solidAt, faceOf, cellOf, after, check}
-
--- ---- the faces, up to the first that has no plane
-
-kept : Outcome Face → Cell → Cell
-kept (ok f) c = f ∷ c
-kept (refused r) c = []
-
-unfoldable pub framed : Precision → List Point3 → List (List ℕ) → Cell
-unfolding kept
-framed t ps [] = []
-framed t ps (f ∷ fs) = kept (faceOf t ps f) (framed t ps fs)
+use Rattle.solid_check.specs.Check.{solidAt, faceOf, cellOf, after, check, stored, kept, framed}
 
 -- ---- what a fine verdict says
 
@@ -57,7 +49,8 @@ face-ok : (t : Precision) (ps : List Point3) (f : List ℕ) (w : Plane) → plan
 unfolding faceOf
 face-ok t ps f w e = go (planeFor t ps f) (λ w. ok (record { plane = w; points = map (pointOf ps) f })) w e
 
--- one face more, and the end at one without a plane
+-- ---- the faces: one more, and the end at one without a plane
+
 pub framed-go : (t : Precision) (ps : List Point3) (f : List ℕ) (fs : List (List ℕ)) (w : Plane) → planeFor t ps f ≡ ok w →
     framed t ps (f ∷ fs) ≡ record { plane = w; points = map (pointOf ps) f } ∷ framed t ps fs
 unfolding framed kept
@@ -142,3 +135,49 @@ module _ (counted : Bool) (t : Precision) (points : List Float) (m : ℕ) (place
 
   pub check-shape : fairAll ps ≡ true → counted && not (countedAll m n (countsAt counts 0 n)) ≡ false → sound m fs ≡ true → shaped t ps fs ≡ verdictOf all
   check-shape e g k = after-shape (shaped t ps fs) refl ∙ ap verdictOf (sym (sound-pass e g k))
+
+-- ---- what is stored of a checked solid
+
+after-ok : {A : Type 0} (v : Verdict) (o : Outcome A) (a : A) → after v o ≡ ok a → (v ≡ D.Fine) × (o ≡ ok a)
+unfolding after
+after-ok D.Fine o a e = (refl, e)
+after-ok (D.Refused r) o a e = never-ok e
+
+-- an answer says that every test before it came out fine
+check-passed : (counted : Bool) (t : Precision) (s : Solid) (c : Cell) → check counted t s ≡ ok c → (shaped t (s .points) (s .faces) ≡ D.Fine) × (cellOf t s ≡ ok c)
+unfolding check
+check-passed counted t s c e =
+    let a = unless-ok (not (fairAll (s .points))) 2 _ c e in
+    let b = unless-ok (counted && not (countedAll (length (s .points)) (length (s .faces)) (map length (s .faces)))) 3 _ c (a .1) in
+    let d = unless-ok (not (sound (length (s .points)) (s .faces))) 4 _ c (b .1) in
+    after-ok (shaped t (s .points) (s .faces)) (cellOf t s) c (d .1)
+
+check-cell : (counted : Bool) (t : Precision) (s : Solid) (c : Cell) → check counted t s ≡ ok c → c ≡ framed t (s .points) (s .faces)
+check-cell counted t s c e = let g = check-passed counted t s c e in same-ok (sym (g .1) ∙ cell-framed t s (g .0))
+
+pub stored-fine : (counted : Bool) (t : Precision) (s : Solid) (l : List Float) → verdictOf (check counted t s) ≡ D.Fine → sets l 0 (cellFloats (framed t (s .points) (s .faces))) ≡ stored (check counted t s) l
+unfolding stored
+stored-fine counted t s l e =
+    let w = verdict-ok (check counted t s) e in
+    ap (λ c. sets l 0 (cellFloats c)) (sym (check-cell counted t s (w .0) (w .1))) ∙ ap (λ o. stored o l) (sym (w .1))
+
+pub stored-refused : (counted : Bool) (t : Precision) (s : Solid) (l : List Float) (r : Refusal) → verdictOf (check counted t s) ≡ D.Refused r → l ≡ stored (check counted t s) l
+stored-refused counted t s l r e = go (check counted t s) e
+  where
+    go : (o : Outcome Cell) → verdictOf o ≡ D.Refused r → l ≡ stored o l
+    go (ok c) h = unfold verdictOf Good in absurd (subst Good h tt)
+    go (refused x) h = unfold stored in refl
+
+-- a checked solid's cell has its numbers of corners
+framed-counts : (t : Precision) (ps : List Point3) (fs : List (List ℕ)) → framedAll t ps fs ≡ D.Fine → cellCounts (framed t ps fs) ≡ map length fs
+unfolding framed framedAll eachIn cellCounts
+framed-counts t ps [] h = refl
+framed-counts t ps (f ∷ fs) h =
+    let b = first-fine (verdictOf (planeFor t ps f)) (framedAll t ps fs) h in
+    let w = verdict-ok (planeFor t ps f) (b .0) in
+    ap cellCounts (framed-go t ps f fs (w .0) (w .1)) ∙ ap₂ (λ n ns. n ∷ ns) (length-map f (pointOf ps)) (framed-counts t ps fs (b .1))
+
+pub check-counted : (counted : Bool) (t : Precision) (s : Solid) (c : Cell) → check counted t s ≡ ok c → cellCounts c ≡ map length (s .faces)
+unfolding shaped
+check-counted counted t s c e =
+    ap cellCounts (check-cell counted t s c e) ∙ framed-counts t (s .points) (s .faces) (first-fine (framedAll t (s .points) (s .faces)) _ (check-passed counted t s c e .0) .0)

@@ -109,7 +109,7 @@ fit-by ps ns fs m n i a b c e g h =
     ap (λ k. ((ltb (getD ps i 0) m && eqb k 1) && eqb b 1) && eqb c 1) (e ∙ point-pairs ps ns fs (getD fs i 0) (getD ps i 0) 0 0 n)
     ∙ ap (λ k. ((ltb (getD ps i 0) m && once (isPoint (getD fs i 0) (getD ps i 0)) (cornersAt ps ns fs 0 n)) && eqb k 1) && eqb c 1) (g ∙ edge-pairs ps ns fs (getD ps i 0) (getD ns i 0) 0 0 n)
     ∙ ap (λ k. ((ltb (getD ps i 0) m && once (isPoint (getD fs i 0) (getD ps i 0)) (cornersAt ps ns fs 0 n)) && once (isEdge (getD ps i 0) (getD ns i 0)) (cornersAt ps ns fs 0 n)) && eqb k 1)
-      (h ∙ edge-pairs ps ns fs (getD ns i 0) (getD ps i 0) 0 0 n)
+    (h ∙ edge-pairs ps ns fs (getD ns i 0) (getD ps i 0) 0 0 n)
 
 pub fit-next : (g : Corner → Bool) (b c : Bool) (ps ns fs : List ℕ) (n i : ℕ) → i < n → c ≡ g (cornerAt ps ns fs i) →
     all g (b && c) (drop (i + 1) (cornersAt ps ns fs 0 n)) ≡ all g b (drop i (cornersAt ps ns fs 0 n))
