@@ -1,0 +1,156 @@
+-- Laws of the hollow solid's parts, in the words of the code.
+use mathlib.Core.Path.{_≡_, refl, sym, ap, _∙_, subst}
+use mathlib.Core.List.{List, [], _∷_, _++_, reverse, reverseAux, reverse-append}
+use Prim.Native.Nat.{ℕ, suc, _+_, _-_, _*_, _≤_, _<_}
+use native.Mathlib.Omega.{arith}
+use lib.ListN.{length, take, drop, getD, set}
+use lib.Seq.{sets, length-sets, take-suc, take-all}
+use lib.Ieee.{Float}
+use Rattle.refusal.specs.declared.Refusal.{Refusal}
+use Rattle.refusal.specs.declared.Verdict.{Verdict}
+use Rattle.refusal.specs.declared.Verdict.the-variants as D
+use Rattle.refusal.specs.Outcome.{Outcome, ok, refused, then, each}
+use Rattle.space.specs.declared.Point3.{Point3}
+use Rattle.space.specs.declared.Plane.{Plane}
+use Rattle.space.specs.declared.Precision.{Precision}
+use Rattle.space.specs.Shapes.{Face, Cell, corners}
+use Rattle.side.specs.Sides.{oppositeOf}
+use Rattle.polygon.specs.Memory.{floats, floatsOf, pointAt, pointsAt}
+use Rattle.polygon.specs.Members.{same-ok, then-ok}
+use Rattle.room.specs.Rooms.{planeFloats, faceAt, cellAt, countsAt}
+use Rattle.room.specs.Laws.{sets-append, sets-point, point-of, length-pointsAt, corners-cons, corners-none}
+use Rattle.cell.specs.Laws.{Ahead, ahead-next, ahead-inside, ahead-face, ahead-done}
+use Rattle.bounds.specs.Bounds.{Lies}
+use Rattle.offset.specs.Stored.{FaceMoved, CellMoved, Place}
+use Rattle.offset.specs.Laws.{Listing, listing-start, listing-fits, listing-step, listing-stop, listing-end}
+use Rattle.hollow.specs.Hollows.{reversedFace}
+
+-- ---- points, the last first
+
+length-turned : {A : Type 0} (l r : List A) → length (reverseAux l r) ≡ length l + length r
+length-turned [] r = omega arith
+length-turned (x ∷ l) r = length-turned l (x ∷ r) ∙ omega arith
+
+-- the last of i points, and those before it
+last : (s : List Float) (at n i : ℕ) → 0 < i → i ≤ n → reverse (take i (pointsAt s at n)) ≡ pointAt s (at + 3 * (i - 1)) ∷ reverse (take (i - 1) (pointsAt s at n))
+last s at n i h g =
+    let k : i ≡ suc (i - 1) = omega arith in
+    let m : i - 1 < length (pointsAt s at n) = omega (arith, length-pointsAt s at n) in
+    ap (λ j. reverse (take j (pointsAt s at n))) k
+    ∙ ap reverse (take-suc (pointsAt s at n) (i - 1) (pointAt s at) m)
+    ∙ reverse-append (take (i - 1) (pointsAt s at n)) (getD (pointsAt s at n) (i - 1) (pointAt s at) ∷ [])
+    ∙ ap (λ q. q ∷ reverse (take (i - 1) (pointsAt s at n))) (point-of s at n (i - 1) (pointAt s at) (omega arith))
+
+pub record Turning (s : List Float) (at n : ℕ) (d₀ : List Float) (to : ℕ) (d : List Float) (o i : ℕ) : Type 0 where
+  pub upto : i ≤ n
+  pub place : o + 3 * i ≡ to + 3 * n
+  pub size : length d ≡ length d₀
+  pub rest : sets d o (floatsOf (reverse (take i (pointsAt s at n)))) ≡ sets d₀ to (floatsOf (reverse (pointsAt s at n)))
+
+pub turning-start : (s : List Float) (at n : ℕ) (d : List Float) (to : ℕ) → Turning s at n d to d to n
+turning-start s at n d to = record {
+  upto = omega arith;
+  place = refl;
+  size = refl;
+  rest = ap (λ l. sets d to (floatsOf (reverse l))) (take-all n (pointsAt s at n) (omega (arith, length-pointsAt s at n)));
+}
+
+module _ {s : List Float} {at n : ℕ} {d₀ : List Float} {to : ℕ} {d : List Float} {o i : ℕ} (I : Turning s at n d₀ to d o i) where
+  pub turning-step : (q : Point3) (d′ : List Float) → 0 < i → q ≡ pointAt s (at + 3 * (i - 1)) → d′ ≡ sets d o (floats q) → Turning s at n d₀ to d′ (o + 3) (i - 1)
+  turning-step q d′ h e u = record {
+    upto = omega (arith, I .upto);
+    place = omega (arith, I .place);
+    size = ap length u ∙ length-sets d o (floats q) ∙ I .size;
+    rest = ap (λ y. sets y (o + 3) (floatsOf (reverse (take (i - 1) (pointsAt s at n))))) u
+        ∙ sym (sets-point d o q (reverse (take (i - 1) (pointsAt s at n))))
+        ∙ ap (λ y. sets d o (floatsOf (y ∷ reverse (take (i - 1) (pointsAt s at n))))) e
+        ∙ ap (λ l. sets d o (floatsOf l)) (sym (last s at n i h (I .upto)))
+        ∙ I .rest;
+  }
+
+  pub turning-end : i ≤ 0 → d ≡ sets d₀ to (floatsOf (reverse (pointsAt s at n)))
+  turning-end h = let e : i ≡ 0 = omega arith in ap (λ j. sets d o (floatsOf (reverse (take j (pointsAt s at n))))) (sym e) ∙ I .rest
+
+-- ---- one face
+
+module _ (t : Precision) (f : Face) (to : ℕ) (d₀ d : List Float) (v : Verdict) where
+  pub face-reversed : (w : Plane) (e : List Float) → oppositeOf t (f .plane) ≡ ok w → v ≡ D.Fine → e ≡ sets d₀ to (planeFloats w) → d ≡ sets e (to + 12) (floatsOf (reverse (f .points))) → FaceMoved (reversedFace t f) to d₀ d v
+  unfolding reversedFace FaceMoved
+  face-reversed w e p u g h =
+      subst (λ y. FaceMoved (then y (λ w. ok (record { plane = w; points = reverse (f .points) }))) to d₀ d v) (sym p)
+      (u, h ∙ ap (λ y. sets y (to + 12) (floatsOf (reverse (f .points)))) g ∙ sets-append d₀ to (planeFloats w) (floatsOf (reverse (f .points))))
+
+  pub face-stays : (r : Refusal) → oppositeOf t (f .plane) ≡ refused r → v ≡ D.Refused r → length d ≡ length d₀ → FaceMoved (reversedFace t f) to d₀ d v
+  unfolding reversedFace FaceMoved
+  face-stays r p u s = subst (λ y. FaceMoved (then y (λ w. ok (record { plane = w; points = reverse (f .points) }))) to d₀ d v) (sym p) (u, s)
+
+reversed-corners : (t : Precision) (f g : Face) → reversedFace t f ≡ ok g → length (g .points) ≡ length (f .points)
+unfolding reversedFace
+reversed-corners t f g e =
+    let h = then-ok (oppositeOf t (f .plane)) (λ w. ok (record { plane = w; points = reverse (f .points) })) g e in
+    ap (λ y. length (y .points)) (sym (same-ok (h .2))) ∙ length-turned (f .points) [] ∙ omega arith
+
+-- ---- the faces of a cell
+
+pub record Reversing (t : Precision) (s : List Float) (from : ℕ) (counts : List ℕ) (first n : ℕ) (d₀ : List Float) (to : ℕ) (n₀ : List ℕ) (k : ℕ) (d : List Float) (ns : List ℕ) (o q j : ℕ) : Type 0 where
+  pub ahead : Ahead s counts first n o j
+  pub listing : Listing (reversedFace t) (cellAt s from (countsAt counts first n)) counts first n d₀ to n₀ k d ns q j (cellAt s o (drop j (countsAt counts first n)))
+
+pub reversing-start : {t : Precision} {s : List Float} {from : ℕ} {counts : List ℕ} {first n : ℕ} {d : List Float} {to : ℕ} {ns : List ℕ} {k : ℕ} →
+    Lies s from counts first n → Place counts first n d to ns k → Reversing t s from counts first n d to ns k d ns from to 0
+reversing-start g h = record { ahead = record { upto = omega arith; within = g .within }; listing = listing-start _ _ _ _ _ _ _ _ _ h }
+
+module _ {t : Precision} {s : List Float} {from : ℕ} {counts : List ℕ} {first n : ℕ} {d₀ : List Float} {to : ℕ} {n₀ : List ℕ} {k : ℕ} {d : List Float} {ns : List ℕ} {o q j : ℕ}
+    (I : Reversing t s from counts first n d₀ to n₀ k d ns o q j) (given : Lies s from counts first n) where
+  module _ (h : j < n) where
+    pub reversing-inside : o + 12 + 3 * getD counts (first + j) 0 ≤ length s
+    reversing-inside = ahead-inside s counts first n o j (given .listed) h (I .ahead)
+
+    pub reversing-fits : q + 12 + 3 * getD counts (first + j) 0 ≤ length d
+    reversing-fits = listing-fits (I .listing) (given .listed) h
+
+    sized : (g : Face) → reversedFace t (faceAt s o (getD counts (first + j) 0)) ≡ ok g → length (g .points) ≡ getD counts (first + j) 0
+    sized g e = reversed-corners t (faceAt s o (getD counts (first + j) 0)) g e ∙ length-pointsAt s (o + 12) (getD counts (first + j) 0)
+
+    pub reversing-step : (d′ : List Float) (ns′ : List ℕ) (v : Verdict) → FaceMoved (reversedFace t (faceAt s o (getD counts (first + j) 0))) q d d′ v → v ≡ D.Fine → ns′ ≡ set ns (k + j) (getD counts (first + j) 0) →
+        Reversing t s from counts first n d₀ to n₀ k d′ ns′ (o + 12 + 3 * getD counts (first + j) 0) (q + 12 + 3 * getD counts (first + j) 0) (j + 1)
+    reversing-step d′ ns′ v m e u = record {
+      ahead = ahead-next s counts first n o j (given .listed) h (I .ahead);
+      listing = listing-step (I .listing) (given .listed) h (faceAt s o (getD counts (first + j) 0)) _ d′ ns′ v (ahead-face s counts first n o j (given .listed) h (I .ahead)) m e sized u;
+    }
+
+    pub reversing-stop : (d′ : List Float) (v v′ : Verdict) (r : Refusal) → FaceMoved (reversedFace t (faceAt s o (getD counts (first + j) 0))) q d d′ v → v ≡ D.Refused r → v′ ≡ D.Refused r →
+        CellMoved (each (reversedFace t) [] (cellAt s from (countsAt counts first n))) n d₀ to n₀ k d′ ns v′
+    reversing-stop d′ v v′ r m e e′ = listing-stop (I .listing) (given .listed) h (faceAt s o (getD counts (first + j) 0)) _ d′ v v′ r (ahead-face s counts first n o j (given .listed) h (I .ahead)) m e e′
+
+  pub reversing-end : (v : Verdict) → n ≤ j → v ≡ D.Fine → CellMoved (each (reversedFace t) [] (cellAt s from (countsAt counts first n))) n d₀ to n₀ k d ns v
+  reversing-end v h e = listing-end (I .listing) v h (I .ahead .upto) (ahead-done s counts first n o j h) e
+
+-- ---- how many corners
+
+pub record Counting (s : List Float) (from : ℕ) (counts : List ℕ) (first n held j : ℕ) : Type 0 where
+  pub o : ℕ
+  pub ahead : Ahead s counts first n o j
+  pub few : 3 * held ≤ o
+  pub left : held + corners 0 (cellAt s o (drop j (countsAt counts first n))) ≡ corners 0 (cellAt s from (countsAt counts first n))
+
+pub counting-start : {s : List Float} {from : ℕ} {counts : List ℕ} {first n : ℕ} → Lies s from counts first n → Counting s from counts first n 0 0
+counting-start {from = from} g = record { o = from; ahead = record { upto = omega arith; within = g .within }; few = omega arith; left = omega arith }
+
+module _ {s : List Float} {from : ℕ} {counts : List ℕ} {first n held j : ℕ} (I : Counting s from counts first n held j) (given : Lies s from counts first n) where
+  pub counting-few : j < n → 3 * (held + getD counts (first + j) 0) ≤ length s
+  counting-few h = omega (arith, I .few, ahead-inside s counts first n (I .o) j (given .listed) h (I .ahead))
+
+  pub counting-step : j < n → Counting s from counts first n (held + getD counts (first + j) 0) (j + 1)
+  counting-step h =
+      let c = getD counts (first + j) 0 in
+      let e = ahead-face s counts first n (I .o) j (given .listed) h (I .ahead) in
+      record {
+        o = I .o + 12 + 3 * getD counts (first + j) 0;
+        ahead = ahead-next s counts first n (I .o) j (given .listed) h (I .ahead);
+        few = omega (arith, I .few);
+        left = omega (arith, I .left, ap (corners 0) e, corners-cons (faceAt s (I .o) c) (cellAt s (I .o + 12 + 3 * c) (drop (j + 1) (countsAt counts first n))), length-pointsAt s (I .o + 12) c);
+      }
+
+  pub counting-end : n ≤ j → held ≡ corners 0 (cellAt s from (countsAt counts first n))
+  counting-end h = omega (arith, I .left, ap (corners 0) (ahead-done s counts first n (I .o) j h), corners-none)
