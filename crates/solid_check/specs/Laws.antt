@@ -2,20 +2,20 @@
 use mathlib.Core.Path.{_≡_, refl, sym, ap, ap₂, _∙_, subst}
 use mathlib.Core.Bool.{Bool, true, false, not, _&&_}
 use mathlib.Core.List.{List, [], _∷_, _++_, append-nil, append-assoc, map}
-use Prim.Native.Nat.{ℕ, zero, suc, _+_, _*_, _≤_, _<_}
+use Prim.Native.Nat.{ℕ, _+_, _≤_}
 use native.Mathlib.Omega.{arith}
-use lib.ListN.{length, take, drop, getD, length-take, length-drop, length-map}
+use lib.ListN.{length, drop, length-take, length-drop, length-map}
 use lib.Seq.{sets}
 use lib.Ieee.{Float}
 use Rattle.refusal.specs.declared.Refusal.{Refusal}
 use Rattle.refusal.specs.declared.Verdict.{Verdict}
 use Rattle.refusal.specs.declared.Verdict.the-variants as D
-use Rattle.refusal.specs.Outcome.{Outcome, ok, refused, refusalOf, then, unless, each, verdictOf}
+use Rattle.refusal.specs.Outcome.{Outcome, ok, refused, refusalOf, unless, each, verdictOf}
 use Rattle.refusal.specs.Laws.{stop, go, each-go, each-end}
 use Rattle.space.specs.declared.Point3.{Point3}
 use Rattle.space.specs.declared.Plane.{Plane}
 use Rattle.space.specs.declared.Precision.{Precision}
-use Rattle.space.specs.Shapes.{Face, Cell, Solid}
+use Rattle.space.specs.Shapes.{Cell, Solid}
 use Rattle.polygon.specs.Memory.{pointsAt}
 use Rattle.polygon.specs.Members.{same-ok, never-ok}
 use Rattle.room.specs.Rooms.{countsAt, cellFloats, cellCounts}

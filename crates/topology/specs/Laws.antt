@@ -6,11 +6,11 @@ use Prim.Native.Nat.{ℕ, zero, suc, _+_, _-_, _*_, _/_, _%_, _≤_, _<_}
 use native.Mathlib.Omega.{arith}
 use native.Mathlib.Nat.{not-suc-le-zero, le-of-suc-le-suc}
 use native.Mathlib.Numerals.{add-one}
-use lib.ListN.{length, take, drop, getD, set, length-set, length-append, length-drop, drop-of-length-le}
-use lib.Seq.{getD-set-same, getD-set-other, getD-drop, drop-cons, take-suc-set, take-all}
+use lib.ListN.{length, take, drop, getD, set, length-set, length-drop, drop-of-length-le}
+use lib.Seq.{getD-set-same, getD-set-other, getD-drop, drop-cons, take-suc-set}
 use lib.Dec.{eqb, ltb}
 use borrow.Author.Tests.{eqb-true, eqb-false, eq-eqb, ne-eqb}
-use Rattle.lists.specs.Walks.{Pair, cyclic, all}
+use Rattle.lists.specs.Walks.{cyclic, all}
 use Rattle.lists.specs.Laws.{next-edge, edges-done}
 use Rattle.sums.specs.Components.{components}
 use Rattle.groups.specs.Chain.{upFrom}

@@ -2,3 +2,4 @@ pub mod Topology
 pub mod Corners
 pub mod Laws
 pub mod Sound
+pub mod Chains

@@ -2,9 +2,9 @@
 use mathlib.Core.Path.{_≡_, refl, sym, ap, ap₂, _∙_, subst}
 use mathlib.Core.Bool.{Bool, true, false, _&&_, cond}
 use mathlib.Core.List.{List, [], _∷_, _++_, map}
-use Prim.Native.Nat.{ℕ, zero, suc, _+_, _*_, _≤_, _<_}
+use Prim.Native.Nat.{ℕ, zero, suc, _+_, _≤_, _<_}
 use native.Mathlib.Omega.{arith}
-use lib.ListN.{length, take, drop, getD, length-take, length-drop}
+use lib.ListN.{length, length-take}
 use lib.Dec.{eqb}
 use Rattle.lists.specs.Walks.{Pair, cyclic, all}
 use Rattle.sums.specs.Sum.{Each}
@@ -21,7 +21,7 @@ use Rattle.topology.specs.Laws.{length-cornersAt, points-are}
 -- ---- every face that is named is one of n
 
 module _ (n : ℕ) where
-  abbrev Below : Corner → Type 0
+  abbrev pub Below : Corner → Type 0
   Below c = c .face < n
 
   each-both : (a b : List Corner) → Each Below a → Each Below b → Each Below (a ++ b)
@@ -32,7 +32,7 @@ module _ (n : ℕ) where
   each-edge k [] h = tt
   each-edge k (e ∷ l) h = (h, each-edge k l h)
 
-  corners-below : (k : ℕ) (fs : List (List ℕ)) → k + length fs ≤ n → Each Below (cornersOf k fs)
+  pub corners-below : (k : ℕ) (fs : List (List ℕ)) → k + length fs ≤ n → Each Below (cornersOf k fs)
   unfolding cornersOf
   corners-below k [] h = tt
   corners-below k (f ∷ fs) h = each-both (map (cornerOf k) (cyclic f)) (cornersOf (suc k) fs) (each-edge k (cyclic f) (omega arith)) (corners-below (suc k) fs (omega arith))
@@ -41,7 +41,7 @@ module _ (n : ℕ) where
   either true x y h g = h
   either false x y h g = g
 
-  face-below : (a b f : ℕ) (cs : List Corner) → f < n → Each Below cs → faceWith a b f cs < n
+  pub face-below : (a b f : ℕ) (cs : List Corner) → f < n → Each Below cs → faceWith a b f cs < n
   unfolding faceWith
   face-below a b f [] h e = h
   face-below a b f (c ∷ cs) h e = face-below a b (cond (eqb (c .point) a && eqb (c .next) b) (c .face) f) cs (either (eqb (c .point) a && eqb (c .next) b) (c .face) f (e .0) h) (e .1)
