@@ -1,3 +1,4 @@
 //! The archives of the port, as Rust calls them: plain types in, plain types out.
 pub mod guard;
 pub mod leaves;
+pub mod vectors;
