@@ -2,6 +2,7 @@
 //! compare [--seed N] [--scale N] [--share N] [--only LAYER]: another seed, N times as many questions, an N-th of them,
 //! the questions of one layer alone.
 mod bits;
+mod cutting;
 mod numbers;
 mod report;
 mod vectors;
@@ -38,9 +39,10 @@ impl Scale {
 type Layer = fn(&mut Report, u64, Scale);
 
 /// Each layer's name, what it asks, and what is added to the seed.
-const LAYERS: [(&str, Layer, u64); 2] = [
+const LAYERS: [(&str, Layer, u64); 3] = [
     ("numbers", numbers::compare, 0),
     ("vectors", vectors::compare, 100),
+    ("cutting", cutting::compare, 200),
 ];
 
 fn main() {
