@@ -1,4 +1,5 @@
 //! The port's speed beside the Rust's, in one run: nanoseconds for a call, and the ratio.
+mod cutting;
 mod numbers;
 mod same;
 mod timed;
@@ -9,4 +10,6 @@ fn main() {
         "call", "port ns", "Rust ns", "ratio", "wish"
     );
     numbers::bench();
+    cutting::clips();
+    cutting::meshes();
 }

@@ -3,6 +3,7 @@
 //! the questions of one layer alone.
 mod bits;
 mod cutting;
+mod mesh;
 mod numbers;
 mod report;
 mod vectors;
@@ -39,10 +40,11 @@ impl Scale {
 type Layer = fn(&mut Report, u64, Scale);
 
 /// Each layer's name, what it asks, and what is added to the seed.
-const LAYERS: [(&str, Layer, u64); 3] = [
+const LAYERS: [(&str, Layer, u64); 4] = [
     ("numbers", numbers::compare, 0),
     ("vectors", vectors::compare, 100),
     ("cutting", cutting::compare, 200),
+    ("mesh", mesh::compare, 300),
 ];
 
 fn main() {

@@ -2,4 +2,5 @@
 pub mod cutting;
 pub mod guard;
 pub mod leaves;
+pub mod mesh;
 pub mod vectors;
