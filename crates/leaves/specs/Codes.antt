@@ -1,9 +1,6 @@
 -- How a leaf's answer is told in numbers. Definitions only.
 use Prim.Native.Nat.{ℕ}
-use mathlib.Core.Bool.{Bool, true, false, cond}
-use mathlib.Core.List.{List, [], _∷_}
-use lib.ListN.{length, set}
-use lib.Dec.{leb, ltb}
+use mathlib.Core.List.{List}
 use lib.Ieee.{Float}
 use Rattle.refusal.specs.declared.Refusal.{Refusal}
 use Rattle.interval.specs.declared.Interval.{Interval}
@@ -20,25 +17,12 @@ use Rattle.side.specs.declared.Side.the-variants as D
 use Rattle.turns.specs.declared.Turn.{Turn as Bend}
 use Rattle.turns.specs.declared.Turn.the-variants as B
 use Rattle.turns.specs.declared.Projected.{Projected}
-use Rattle.refusal.specs.Outcome.{Outcome, ok, refused}
-use Rattle.space.specs.declared.Point3.{Point3}
-use Rattle.space.specs.declared.Plane.{Plane}
-use Rattle.space.specs.Vector.{origin}
-use Rattle.polygon.specs.Memory.{floats, pointAt}
-use Rattle.room.specs.Rooms.{planeFloats, planeAt}
-use lib.Seq.{sets}
+use Rattle.lent.specs.Lent.{stored}
 
--- the two ends, where there is room for them
-unfoldable pub stored : List Float → Interval → List Float
-stored s i = cond (leb 2 (length s)) (set (set s 0 (i .lo)) 1 (i .hi)) s
-
+-- the ends of a reciprocal, or nothing
 unfoldable pub inverted : List Float → Inverse → List Float
 inverted s (I.Value i) = stored s i
 inverted s I.Nothing = s
-
-abbrev pub yes : Bool → ℕ
-yes true = 1
-yes false = 0
 
 -- 0 zero, 1 positive, 2 negative, 3 none
 abbrev pub signCode : Sign → ℕ
@@ -71,28 +55,6 @@ bendCode B.Positive = 1
 bendCode B.Negative = 2
 bendCode B.Zero = 0
 bendCode (B.Refused r) = r .number
-
--- the point and the plane that a slice begins with; zeros where it is too short
-unfoldable pub pointBy : List Float → Point3
-pointBy s = cond (ltb (length s) 3) origin (pointAt s 0)
-
-unfoldable pub flat : Plane
-flat = record { frame = record { origin = origin; x = origin; y = origin; z = origin } }
-
-unfoldable pub planeBy : List Float → Plane
-planeBy s = cond (ltb (length s) 12) flat (planeAt s 0)
-
--- a point and a plane, where there is room for them
-unfoldable pub pointStored : List Float → Point3 → List Float
-pointStored s p = cond (leb 3 (length s)) (sets s 0 (floats p)) s
-
-unfoldable pub planeStored : List Float → Plane → List Float
-planeStored s w = cond (leb 12 (length s)) (sets s 0 (planeFloats w)) s
-
--- the plane of an outcome, or one of zeros
-unfoldable pub planeIn : Outcome Plane → Plane
-planeIn (ok w) = w
-planeIn (refused r) = flat
 
 abbrev pub shadow : Float → Float → Float → Float → Projected
 shadow xl xh yl yh = record { x = record { lo = xl; hi = xh }; y = record { lo = yl; hi = yh } }

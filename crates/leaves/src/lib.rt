@@ -5,41 +5,23 @@ use interval::Inverse;
 use interval::Sign;
 use side::Side;
 use space::Closeness;
-use space::Frame;
-use space::Plane;
-use space::Planed;
 use space::Point3;
 use space::Precision;
 use turns::Projected;
 ghost use mathlib.Core.Path.{_≡_};
-ghost use Prim.Native.Nat.{_≤_};
 ghost use lib.Ieee.{binary64, toBits, ofBits};
 ghost use Rattle.float.specs.Float.{nextUp, nextDown, abs, finite, lesser, greater, before};
 ghost use Rattle.root.specs.Root.{sqrtOf};
 ghost use Rattle.exact.specs.Orient.{orientOf};
 ghost use Rattle.interval.specs.Ends.{addI, subI, mulI, sqrI, signOf, inverseOf, holdsZero};
 ghost use Rattle.space.specs.Vector.{lengthV};
-ghost use Rattle.space.specs.Frames.{planed, planeOf, localOf};
+ghost use Rattle.space.specs.Frames.{planeOf, localOf};
 ghost use Rattle.space.specs.Near.{nearOf};
 ghost use Rattle.side.specs.Sides.{distanceOf, sideOf, oppositeOf};
 ghost use Rattle.refusal.specs.Outcome.{numberOf};
 ghost use Rattle.turns.specs.Turns.{orientationOf, inRange};
-ghost use Rattle.leaves.specs.Codes.{stored, yes, signCode, turnCode, inverted, closeCode, sideCode, bendCode, pointBy, planeBy, pointStored, planeStored, planeIn, flat, shadow};
-
-fn put(out: &mut [f64], i: Interval)
-    ensures { λ _. ⌜ now (out .exit) ≡ stored (now (out .entry)) i ⌝ }
-{
-    if 2 <= out.len() {
-        out[0] = i.lo;
-        out[1] = i.hi;
-    }
-}
-
-fn code(b: bool) -> u64
-    ensures { λ r. ⌜ r ≡ yes b ⌝ }
-{
-    if b { 1 } else { 0 }
-}
+ghost use Rattle.lent.specs.Lent.{yes, stored, pointBy, planeBy, pointStored, planeStored, planeIn};
+ghost use Rattle.leaves.specs.Codes.{signCode, turnCode, inverted, closeCode, sideCode, bendCode, shadow};
 
 fn sign_code(s: Sign) -> u64
     ensures { λ r. ⌜ r ≡ signCode s ⌝ }
@@ -89,7 +71,7 @@ fn put_inverse(out: &mut [f64], v: Inverse)
     ensures { λ _. ⌜ now (out .exit) ≡ inverted (now (out .entry)) v ⌝ }
 {
     match v {
-        Inverse::Value(i) => put(out, i),
+        Inverse::Value(i) => lent::put_ends(out, i),
         Inverse::Nothing => {}
     }
 }
@@ -119,7 +101,7 @@ pub extern "C" fn leaf_abs(x: f64) -> f64
 pub extern "C" fn leaf_is_finite(x: f64) -> u64
     ensures { λ r. ⌜ r ≡ yes (finite x) ⌝ }
 {
-    code(float::is_finite(x))
+    lent::code(float::is_finite(x))
 }
 
 #[no_mangle]
@@ -140,7 +122,7 @@ pub extern "C" fn leaf_greater(x: f64, y: f64) -> f64
 pub extern "C" fn leaf_before(x: f64, y: f64) -> u64
     ensures { λ r. ⌜ r ≡ yes (before x y) ⌝ }
 {
-    code(float::before(x, y))
+    lent::code(float::before(x, y))
 }
 
 #[no_mangle]
@@ -175,7 +157,7 @@ pub extern "C" fn leaf_orient2d(ax: f64, ay: f64, bx: f64, by: f64, cx: f64, cy:
 pub extern "C" fn leaf_add(al: f64, ah: f64, bl: f64, bh: f64, out: &mut [f64])
     ensures { λ _. ⌜ now (out .exit) ≡ stored (now (out .entry)) (addI (record { lo = al; hi = ah }) (record { lo = bl; hi = bh })) ⌝ }
 {
-    put(
+    lent::put_ends(
         out,
         interval::add(Interval { lo: al, hi: ah }, Interval { lo: bl, hi: bh }),
     );
@@ -185,7 +167,7 @@ pub extern "C" fn leaf_add(al: f64, ah: f64, bl: f64, bh: f64, out: &mut [f64])
 pub extern "C" fn leaf_sub(al: f64, ah: f64, bl: f64, bh: f64, out: &mut [f64])
     ensures { λ _. ⌜ now (out .exit) ≡ stored (now (out .entry)) (subI (record { lo = al; hi = ah }) (record { lo = bl; hi = bh })) ⌝ }
 {
-    put(
+    lent::put_ends(
         out,
         interval::sub(Interval { lo: al, hi: ah }, Interval { lo: bl, hi: bh }),
     );
@@ -195,7 +177,7 @@ pub extern "C" fn leaf_sub(al: f64, ah: f64, bl: f64, bh: f64, out: &mut [f64])
 pub extern "C" fn leaf_mul(al: f64, ah: f64, bl: f64, bh: f64, out: &mut [f64])
     ensures { λ _. ⌜ now (out .exit) ≡ stored (now (out .entry)) (mulI (record { lo = al; hi = ah }) (record { lo = bl; hi = bh })) ⌝ }
 {
-    put(
+    lent::put_ends(
         out,
         interval::mul(Interval { lo: al, hi: ah }, Interval { lo: bl, hi: bh }),
     );
@@ -205,7 +187,7 @@ pub extern "C" fn leaf_mul(al: f64, ah: f64, bl: f64, bh: f64, out: &mut [f64])
 pub extern "C" fn leaf_sqr(al: f64, ah: f64, out: &mut [f64])
     ensures { λ _. ⌜ now (out .exit) ≡ stored (now (out .entry)) (sqrI (record { lo = al; hi = ah })) ⌝ }
 {
-    put(out, interval::sqr(Interval { lo: al, hi: ah }));
+    lent::put_ends(out, interval::sqr(Interval { lo: al, hi: ah }));
 }
 
 #[no_mangle]
@@ -226,7 +208,7 @@ pub extern "C" fn leaf_sign(al: f64, ah: f64) -> u64
 pub extern "C" fn leaf_holds_zero(al: f64, ah: f64) -> u64
     ensures { λ r. ⌜ r ≡ yes (holdsZero (record { lo = al; hi = ah })) ⌝ }
 {
-    code(interval::holds_zero(Interval { lo: al, hi: ah }))
+    lent::code(interval::holds_zero(Interval { lo: al, hi: ah }))
 }
 
 #[no_mangle]
@@ -271,81 +253,6 @@ fn bend_code(t: turns::Turn) -> u64
     }
 }
 
-// The point and the plane that a slice begins with; zeros where it is too short.
-fn point_by(s: &[f64]) -> Point3
-    ensures { λ r. ⌜ r ≡ pointBy (now (s .entry)) ⌝ }
-{
-    if s.len() < 3 {
-        return Point3 {
-            x: 0.0,
-            y: 0.0,
-            z: 0.0,
-        };
-    }
-    polygon::get_point(s, 0)
-}
-
-fn flat() -> Plane
-    ensures { λ r. ⌜ r ≡ flat ⌝ }
-{
-    let o = Point3 {
-        x: 0.0,
-        y: 0.0,
-        z: 0.0,
-    };
-    let frame = Frame {
-        origin: o,
-        x: o,
-        y: o,
-        z: o,
-    };
-    Plane { frame }
-}
-
-fn plane_by(s: &[f64]) -> Plane
-    ensures { λ r. ⌜ r ≡ planeBy (now (s .entry)) ⌝ }
-{
-    if s.len() < 12 {
-        return flat();
-    }
-    room::get_plane(s, 0)
-}
-
-fn put_point(out: &mut [f64], p: Point3)
-    ensures { λ _. ⌜ now (out .exit) ≡ pointStored (now (out .entry)) p ⌝ }
-{
-    if 3 <= out.len() {
-        polygon::put_point(out, 0, p);
-    }
-}
-
-fn put_plane(out: &mut [f64], w: Plane)
-    ensures { λ _. ⌜ now (out .exit) ≡ planeStored (now (out .entry)) w ⌝ }
-{
-    if 12 <= out.len() {
-        room::put_plane(out, 0, w);
-    }
-}
-
-// The plane, or one of zeros.
-fn plane_in(p: Planed) -> Plane
-    ensures { λ r. ⌜ r ≡ planeIn (planed p) ⌝ }
-{
-    match p {
-        Planed::Made(w) => w,
-        Planed::Refused(_) => flat(),
-    }
-}
-
-fn planed_code(p: Planed) -> u64
-    ensures { λ r. ⌜ r ≡ numberOf (planed p) ⌝ }
-{
-    match p {
-        Planed::Made(_) => 0,
-        Planed::Refused(r) => r.number,
-    }
-}
-
 // 0 and the plane, or the number of the refusal and zeros.
 #[no_mangle]
 pub extern "C" fn leaf_plane(
@@ -362,12 +269,12 @@ pub extern "C" fn leaf_plane(
         linear,
         local: linear,
     };
-    let o = point_by(origin);
-    let n = point_by(normal);
-    let h = point_by(hint);
+    let o = lent::point_by(origin);
+    let n = lent::point_by(normal);
+    let h = lent::point_by(hint);
     let made = space::plane_of(p, o, n, h);
-    put_plane(out, plane_in(made));
-    planed_code(made)
+    lent::put_plane(out, lent::plane_in(made));
+    lent::planed_code(made)
 }
 
 #[no_mangle]
@@ -379,29 +286,29 @@ pub extern "C" fn leaf_opposite(plane: &[f64], linear: f64, out: &mut [f64]) -> 
         linear,
         local: linear,
     };
-    let w = plane_by(plane);
+    let w = lent::plane_by(plane);
     let made = side::opposite(w, p);
-    put_plane(out, plane_in(made));
-    planed_code(made)
+    lent::put_plane(out, lent::plane_in(made));
+    lent::planed_code(made)
 }
 
 #[no_mangle]
 pub extern "C" fn leaf_to_local(plane: &[f64], q: &[f64], out: &mut [f64])
     ensures { λ _. ⌜ now (out .exit) ≡ pointStored (now (out .entry)) (localOf (planeBy (now (plane .entry)) .frame) (pointBy (now (q .entry)))) ⌝ }
 {
-    let w = plane_by(plane);
-    let p = point_by(q);
+    let w = lent::plane_by(plane);
+    let p = lent::point_by(q);
     let f = w.frame;
-    put_point(out, space::to_local(f, p));
+    lent::put_point(out, space::to_local(f, p));
 }
 
 #[no_mangle]
 pub extern "C" fn leaf_distance(plane: &[f64], q: &[f64], out: &mut [f64])
     ensures { λ _. ⌜ now (out .exit) ≡ stored (now (out .entry)) (distanceOf (planeBy (now (plane .entry))) (pointBy (now (q .entry)))) ⌝ }
 {
-    let w = plane_by(plane);
-    let p = point_by(q);
-    put(out, side::distance(w, p));
+    let w = lent::plane_by(plane);
+    let p = lent::point_by(q);
+    lent::put_ends(out, side::distance(w, p));
 }
 
 #[no_mangle]
@@ -412,7 +319,7 @@ pub extern "C" fn leaf_side(plane: &[f64], q: &[f64], local: f64) -> u64
         linear: local,
         local,
     };
-    side_code(side::side_of(plane_by(plane), point_by(q), p))
+    side_code(side::side_of(lent::plane_by(plane), lent::point_by(q), p))
 }
 
 fn projected(xl: f64, xh: f64, yl: f64, yh: f64) -> Projected
@@ -471,5 +378,5 @@ pub extern "C" fn leaf_contains_range(
     let a = Interval { lo: al, hi: ah };
     let b = Interval { lo: bl, hi: bh };
     let z = Interval { lo: zl, hi: zh };
-    code(turns::contains_range(p, a, b, z))
+    lent::code(turns::contains_range(p, a, b, z))
 }

@@ -4,10 +4,10 @@ use Rattle.float.specs.Float.{nextUp, nextDown, nextBits}
 use Rattle.root.specs.Root.{sqrtOf}
 use Rattle.exact.specs.Orient.{orientOf}
 use Rattle.interval.specs.Ends.{outward, hullOf, addI, subI, mulI, squareOf, sqrI, holdsZero, signOf, inverseOf}
-use Rattle.interval.specs.Box.{dotI, differenceI, crossI}
+use Rattle.interval.specs.Box.{dotI, dot0, differenceI, residualI, crossI}
 use Rattle.refusal.specs.Outcome.{walk, each}
 use Rattle.lists.specs.Walks.{pairsTo, cyclic, numbered, all}
-use Rattle.space.specs.Vector.{subV, addV, scaleV, overV, negV, dotV, crossV, lengthV, boxOf}
+use Rattle.space.specs.Vector.{subV, addV, scaleV, overV, negV, dotV, crossV, lengthV, boxOf, fairPrecision, finitePoint}
 use Rattle.space.specs.Frames.{short, frameOn, frameBy, hintOn, frameAlong, frameUp, frameOf, planeOf, facePlane, localOf}
 use Rattle.space.specs.Near.{closenessOf, gapI, nearOf}
 use Rattle.space.specs.Shapes.{corners, allCorners}
@@ -19,6 +19,12 @@ use Rattle.ring.specs.Rings.{signOne, pushFace, pushCap, pushBoth, pushed, cutB
 use Rattle.cell.specs.Cells.{isFull, addFace, keepFace, leftCell}
 use Rattle.clip.specs.Cuts.{signFace, signsOf, joined, cutFace, closed, cutFaces, cutCell, clipBy, clip}
 use Rattle.indexed.specs.Indexed.{placeIn, indexPoint, indexFace, indexed}
+use Rattle.turns.specs.Turns.{determinantOf, turned, orientationOf, inRange}
+use Rattle.outline.specs.Project.{handed, basisOf, seen, shadowOf, shadowBy, projectedOf}
+use Rattle.simple.specs.Simple.{firstOf, eachOf, settled, touches, apart, metBy, edgesBy, edgesWith, edgesOf, pairOf, pairAt, simpleFrom, simpleOf}
+use Rattle.ears.specs.Places.{upFrom, without, windowAt}
+use Rattle.ears.specs.Ears.{turnAt, blockedWhere, resolved, insideBy, insideOf, blockIn, blockAt, orElse, blockedBy, earBy, foundBy, foundAt, scanFrom, scanOf}
+use Rattle.mesh.specs.Mesh.{clipBy as clipEar, clipOne, clipFrom, clipAll, endBy, endOf, clippedOf, given, trianglesOf, fairFacet, enoughOn, meshOn, meshOf}
 
 unfoldable pub openNumbers : Unit {0}
 unfolding dotI differenceI crossI addI subI mulI outward hullOf squareOf sqrI holdsZero signOf inverseOf nextUp nextDown nextBits add sub mul div neg lt le eq isNan toBits ofBits sqrtOf orientOf
@@ -39,3 +45,7 @@ openCut = tt
 unfoldable pub openIndexed : Unit {0}
 unfolding openSide placeIn indexPoint indexFace indexed
 openIndexed = tt
+
+unfoldable pub openMesh : Unit {0}
+unfolding openSpace dot0 residualI fairPrecision finitePoint determinantOf turned orientationOf inRange handed basisOf seen shadowOf shadowBy projectedOf firstOf eachOf settled touches apart metBy edgesBy edgesWith edgesOf pairOf pairAt simpleFrom simpleOf upFrom without windowAt turnAt blockedWhere resolved insideBy insideOf blockIn blockAt orElse blockedBy earBy foundBy foundAt scanFrom scanOf clipEar clipOne clipFrom clipAll endBy endOf clippedOf given trianglesOf fairFacet enoughOn meshOn meshOf
+openMesh = tt

@@ -8,6 +8,7 @@ use Rattle.space.specs.declared.Point3.{Point3}
 use Rattle.space.specs.declared.Plane.{Plane}
 use Rattle.space.specs.declared.Precision.{Precision}
 use Rattle.space.specs.Shapes.{Face, Cell, Solid}
+use Rattle.ears.specs.declared.Triangle.{Triangle}
 
 abbrev pub pt : Float → Float → Float → Point3
 pt a b c = record { x = a; y = b; z = c }
@@ -87,3 +88,13 @@ cut4 =
     ∷ face a5 (pt n0 n0 n0 ∷ pt n0 n0 n2 ∷ pt n0 n2 n2 ∷ pt n0 n2 n0 ∷ [])
     ∷ face (planeX n1) (pt n1 n0 n0 ∷ pt n1 n2 n0 ∷ pt n1 n2 n2 ∷ pt n1 n0 n2 ∷ [])
     ∷ []
+
+-- "mesh of a square 0,1,2,3", and its plane
+abbrev pub square : List Point3
+square = pt n0 n0 n0 ∷ pt n1 n0 n0 ∷ pt n1 n1 n0 ∷ pt n0 n1 n0 ∷ []
+
+abbrev pub planeZ : Plane
+planeZ = plane (pt n0 n0 n0) (pt n1 n0 n0) (pt n0 n1 n0) (pt n0 n0 n1)
+
+abbrev pub triangle : ℕ → ℕ → ℕ → Triangle
+triangle i j k = record { a = i; b = j; c = k }

@@ -17,8 +17,10 @@ use Rattle.side.specs.declared.Side.the-variants.{Positive, Negative, Zero, Ref
 use Rattle.side.specs.Sides.{sideOf}
 use Rattle.clip.specs.Cuts.{clip}
 use Rattle.indexed.specs.Indexed.{indexed}
-use Rattle.worked.specs.Open.{openSpace, openSide, openCut, openIndexed}
-use Rattle.worked.specs.Shapes.{pt, n0, n1, n2, tol, planeX, boxFaces, cellA, cut4}
+use Rattle.ears.specs.declared.Triangle.{Triangle}
+use Rattle.mesh.specs.Mesh.{meshOf}
+use Rattle.worked.specs.Open.{openSpace, openSide, openCut, openIndexed, openMesh}
+use Rattle.worked.specs.Shapes.{pt, n0, n1, n2, tol, face, planeX, boxFaces, cellA, cut4, square, planeZ, triangle}
 
 -- half of local, local, and twice local
 abbrev pub half : Float
@@ -92,6 +94,14 @@ sizes-4 : then (indexed tol cut4) sizes ≡ ok (record { faces = 6; points = 8 }
 unfolding openIndexed
 sizes-4 = refl
 
+face-14 : faceOf square ≡ ok (face planeZ square)
+unfolding openSpace faceOf
+face-14 = refl
+
+mesh-14 : meshOf tol (face planeZ square) ≡ ok (triangle 3 0 1 ∷ triangle 1 2 3 ∷ [])
+unfolding openMesh
+mesh-14 = refl
+
 -- ---- the cases, from the steps
 
 -- What a case asks. The plane has its origin at (x, 0, 0), normal +x and hint +y; the box that is cut is 0..2, and the room is 720 corners.
@@ -102,6 +112,8 @@ pub data Case : Type 0 where
   cutAt : Float → Part → Case
   -- the cut at x, and how many faces and points it has
   sizesAt : Float → Sizes → Case
+  -- the triangles of the face with these corners
+  meshAt : List Point3 → List Triangle → Case
 
 abbrev pub planeAt : Float → Outcome Plane
 planeAt x = planeOf tol (pt x n0 n0) (pt n1 n0 n0) (pt n0 n1 n0)
@@ -117,6 +129,7 @@ abbrev pub Holds : Case → Type 0
 Holds (sideAt d r) = then (planeAt n0) (λ w. ok (sideOf tol w (pt d n0 n0))) ≡ ok r
 Holds (cutAt x r) = cutAtX x ≡ ok r
 Holds (sizesAt x r) = then (cutAtX x) sizesOf ≡ ok r
+Holds (meshAt l r) = then (faceOf l) (meshOf tol) ≡ ok r
 
 abbrev pub cases : List Case
 cases =
@@ -128,6 +141,7 @@ cases =
     ∷ sizesAt n1 (record { faces = 6; points = 8 })
     ∷ cutAt n2 (part cellA)
     ∷ cutAt n0 nothing
+    ∷ meshAt square (triangle 3 0 1 ∷ triangle 1 2 3 ∷ [])
     ∷ []
 
 abbrev pub All : List Case → Type 0
@@ -143,7 +157,10 @@ p4 = cut-at n1 (planeX n1) (ok (part cut4)) plane-1 clip-4
 sizes-of-4 : then (cutAtX n1) sizesOf ≡ ok (record { faces = 6; points = 8 })
 sizes-of-4 = ap (λ o. then o sizesOf) p4 ∙ sizes-4
 
--- P1 (two), P2, P3, P4 (two), P5, P6
+p14 : then (faceOf square) (meshOf tol) ≡ ok (triangle 3 0 1 ∷ triangle 1 2 3 ∷ [])
+p14 = ap (λ o. then o (meshOf tol)) face-14 ∙ mesh-14
+
+-- P1 (two), P2, P3, P4 (two), P5, P6, P14
 pub all-hold : All cases
 all-hold = (
   rw (plane-0, side-1),
@@ -157,7 +174,7 @@ all-hold = (
           p4,
           (
             sizes-of-4,
-            (cut-at n2 (planeX n2) (ok (part cellA)) plane-2 clip-5, (cut-at n0 (planeX n0) (ok nothing) plane-0 clip-6, tt)),
+            (cut-at n2 (planeX n2) (ok (part cellA)) plane-2 clip-5, (cut-at n0 (planeX n0) (ok nothing) plane-0 clip-6, (p14, tt))),
           ),
         ),
       ),

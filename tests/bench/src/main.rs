@@ -1,11 +1,15 @@
 //! The port's speed beside the Rust's, in one run: nanoseconds for a call, and the ratio.
+mod cutting;
 mod numbers;
+mod same;
 mod timed;
 
 fn main() {
     println!(
-        "{:<28} {:>10} {:>10} {:>7}  {}",
+        "{:<36} {:>10} {:>10} {:>7}  {}",
         "call", "port ns", "Rust ns", "ratio", "wish"
     );
     numbers::bench();
+    cutting::clips();
+    cutting::meshes();
 }

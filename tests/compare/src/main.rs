@@ -1,8 +1,12 @@
 //! Port and oracle in one process: the same questions, every bit of the answers compared.
-//! compare [--seed N] [--scale N]: another seed, N times as many questions.
+//! compare [--seed N] [--scale N] [--share N] [--only LAYER]: another seed, N times as many questions, an N-th of them,
+//! the questions of one layer alone.
 mod bits;
+mod cutting;
+mod mesh;
 mod numbers;
 mod report;
+mod vectors;
 
 use report::Report;
 
@@ -20,10 +24,44 @@ fn option(name: &str, default: u64) -> u64 {
     }
 }
 
+/// How many questions of those that are usual.
+#[derive(Clone, Copy)]
+pub struct Scale {
+    times: usize,
+    over: usize,
+}
+
+impl Scale {
+    pub fn of(self, usual: usize) -> usize {
+        (usual * self.times / self.over).max(1)
+    }
+}
+
+type Layer = fn(&mut Report, u64, Scale);
+
+/// Each layer's name, what it asks, and what is added to the seed.
+const LAYERS: [(&str, Layer, u64); 4] = [
+    ("numbers", numbers::compare, 0),
+    ("vectors", vectors::compare, 100),
+    ("cutting", cutting::compare, 200),
+    ("mesh", mesh::compare, 300),
+];
+
 fn main() {
-    let (seed, scale) = (option("--seed", 1), option("--scale", 1) as usize);
+    let seed = option("--seed", 1);
+    let scale = Scale {
+        times: option("--scale", 1) as usize,
+        over: option("--share", 1).max(1) as usize,
+    };
+    let words: Vec<_> = std::env::args().collect();
+    let only = words.iter().position(|w| w == "--only");
+    let only = only.and_then(|i| words.get(i + 1));
     let mut report = Report::default();
-    numbers::compare(&mut report, seed, scale);
+    for (name, compare, more) in LAYERS {
+        if only.is_none_or(|o| o == name) {
+            compare(&mut report, seed + more, scale);
+        }
+    }
     if !report.finish() {
         std::process::exit(1);
     }

@@ -1,16 +1,17 @@
 //! Floats from the bits, square root, intervals, exact orientation, near, frames, side, mesh orientation.
 use crate::bits::{all, bits};
 use crate::report::Report;
+use crate::Scale;
 use gen::jobs::tolerances;
 use gen::{leaves as ask, Random};
 use oracle::leaf;
 use oracle::{Interval, Sign, Tolerances};
 use port::leaves::{self as ours, Ends};
 
-/// The questions of a leaf that costs little, and of one that costs more.
-const MANY: usize = 1_000_000;
+/// The questions of one leaf.
+pub const MANY: usize = 1_000_000;
 
-fn sign_code(sign: Option<Sign>) -> u64 {
+pub fn sign_code(sign: Option<Sign>) -> u64 {
     match sign {
         Some(Sign::Zero) => 0,
         Some(Sign::Positive) => 1,
@@ -19,11 +20,11 @@ fn sign_code(sign: Option<Sign>) -> u64 {
     }
 }
 
-fn ends(i: Interval) -> [f64; 2] {
+pub fn ends(i: Interval) -> [f64; 2] {
     [i.lo(), i.hi()]
 }
 
-fn interval(a: &[f64; 2]) -> Interval {
+pub fn interval(a: &[f64; 2]) -> Interval {
     Interval::ends(a[0], a[1])
 }
 
@@ -37,7 +38,7 @@ fn pattern(random: &mut Random) -> u64 {
     }
 }
 
-pub fn compare(report: &mut Report, seed: u64, scale: usize) {
+pub fn compare(report: &mut Report, seed: u64, scale: Scale) {
     floats(report, seed, scale);
     intervals(report, seed + 1, scale);
     points(report, seed + 2, scale);
@@ -45,10 +46,10 @@ pub fn compare(report: &mut Report, seed: u64, scale: usize) {
     turns(report, seed + 4, scale);
 }
 
-fn floats(report: &mut Report, seed: u64, scale: usize) {
+fn floats(report: &mut Report, seed: u64, scale: Scale) {
     let mut random = Random::new(seed);
     let mut one =
-        |n: usize| -> Vec<f64> { (0..n * scale).map(|_| ask::float(&mut random)).collect() };
+        |n: usize| -> Vec<f64> { (0..scale.of(n)).map(|_| ask::float(&mut random)).collect() };
     report.ask(
         "next_up",
         one(MANY),
@@ -76,14 +77,14 @@ fn floats(report: &mut Report, seed: u64, scale: usize) {
         |x| bits(leaf::square_root(*x)),
     );
     let mut random = Random::new(seed + 10);
-    let patterns: Vec<_> = (0..MANY * scale).map(|_| pattern(&mut random)).collect();
+    let patterns: Vec<_> = (0..scale.of(MANY)).map(|_| pattern(&mut random)).collect();
     report.ask(
         "float_of",
         patterns,
         |b| bits(ours::float_of(*b)),
         |b| bits(f64::from_bits(*b)),
     );
-    let mut two = || -> Vec<[f64; 2]> { (0..MANY * scale).map(|_| pair(&mut random)).collect() };
+    let mut two = || -> Vec<[f64; 2]> { (0..scale.of(MANY)).map(|_| pair(&mut random)).collect() };
     report.ask(
         "lesser",
         two(),
@@ -96,7 +97,7 @@ fn floats(report: &mut Report, seed: u64, scale: usize) {
         |p| bits(ours::greater(p[0], p[1])),
         |p| bits(leaf::greater(p[0], p[1])),
     );
-    let ordered: Vec<_> = (0..MANY * scale).map(|_| ordered(&mut random)).collect();
+    let ordered: Vec<_> = (0..scale.of(MANY)).map(|_| ordered(&mut random)).collect();
     report.ask(
         "before",
         ordered,
@@ -126,10 +127,10 @@ fn ordered(random: &mut Random) -> [f64; 2] {
     }
 }
 
-fn intervals(report: &mut Report, seed: u64, scale: usize) {
+fn intervals(report: &mut Report, seed: u64, scale: Scale) {
     let mut random = Random::new(seed);
     let mut one = || -> Vec<[f64; 2]> {
-        (0..MANY * scale)
+        (0..scale.of(MANY))
             .map(|_| ask::interval(&mut random))
             .collect()
     };
@@ -161,7 +162,7 @@ fn intervals(report: &mut Report, seed: u64, scale: usize) {
     let mut random = Random::new(seed + 10);
     let mut two = || -> Vec<[[f64; 2]; 2]> {
         let pair = |r: &mut Random| [ask::interval(r), ask::interval(r)];
-        (0..MANY * scale).map(|_| pair(&mut random)).collect()
+        (0..scale.of(MANY)).map(|_| pair(&mut random)).collect()
     };
     report.ask(
         "add",
@@ -190,16 +191,16 @@ fn intervals(report: &mut Report, seed: u64, scale: usize) {
     );
 }
 
-fn points(report: &mut Report, seed: u64, scale: usize) {
+fn points(report: &mut Report, seed: u64, scale: Scale) {
     let mut random = Random::new(seed);
-    let turns: Vec<_> = (0..MANY * scale).map(|_| turn(&mut random)).collect();
+    let turns: Vec<_> = (0..scale.of(MANY)).map(|_| turn(&mut random)).collect();
     report.ask(
         "orient2d",
         turns,
         |t| ours::orient2d(t[0], t[1], t[2]),
         |t| sign_code(leaf::orient2d(t[0], t[1], t[2])),
     );
-    let vectors: Vec<_> = (0..MANY * scale)
+    let vectors: Vec<_> = (0..scale.of(MANY))
         .map(|_| [(); 3].map(|()| ask::float(&mut random)))
         .collect();
     report.ask(
@@ -208,7 +209,7 @@ fn points(report: &mut Report, seed: u64, scale: usize) {
         |v| bits(ours::length(*v)),
         |v| bits(length(v)),
     );
-    let near: Vec<_> = (0..MANY * scale).map(|_| near(&mut random)).collect();
+    let near: Vec<_> = (0..scale.of(MANY)).map(|_| near(&mut random)).collect();
     report.ask(
         "near",
         near,
@@ -217,9 +218,9 @@ fn points(report: &mut Report, seed: u64, scale: usize) {
     );
 }
 
-fn frames(report: &mut Report, seed: u64, scale: usize) {
+fn frames(report: &mut Report, seed: u64, scale: Scale) {
     let mut random = Random::new(seed);
-    let given: Vec<_> = (0..MANY * scale)
+    let given: Vec<_> = (0..scale.of(MANY))
         .map(|_| {
             let t = tolerances(&mut random);
             (t, ask::frame(&mut random, &t))
@@ -235,7 +236,11 @@ fn frames(report: &mut Report, seed: u64, scale: usize) {
         |(t, [o, n, h])| told(leaf::frame(t, o, n, h)),
     );
     let mut random = Random::new(seed + 10);
-    let mut given = || -> Vec<_> { (0..MANY * scale).map(|_| over_plane(&mut random)).collect() };
+    let mut given = || -> Vec<_> {
+        (0..scale.of(MANY))
+            .map(|_| over_plane(&mut random))
+            .collect()
+    };
     report.ask(
         "opposite",
         given(),
@@ -266,7 +271,7 @@ fn frames(report: &mut Report, seed: u64, scale: usize) {
 }
 
 /// The number of a refusal and zeros, or 0 and the plane.
-fn told(o: Result<[f64; 12], u32>) -> (u64, [u64; 12]) {
+pub fn told(o: Result<[f64; 12], u32>) -> (u64, [u64; 12]) {
     o.map_or_else(|n| (u64::from(n), [0; 12]), |w| (0, all(w)))
 }
 
@@ -282,9 +287,9 @@ fn local(w: &[f64; 12], q: &[f64; 3]) -> [f64; 3] {
     [dot(3), dot(6), dot(9)]
 }
 
-fn turns(report: &mut Report, seed: u64, scale: usize) {
+fn turns(report: &mut Report, seed: u64, scale: Scale) {
     let mut random = Random::new(seed);
-    let given: Vec<_> = (0..MANY * scale)
+    let given: Vec<_> = (0..scale.of(MANY))
         .map(|_| {
             let t = tolerances(&mut random);
             (t, ask::shadows(&mut random, &t))
@@ -303,7 +308,7 @@ fn turns(report: &mut Report, seed: u64, scale: usize) {
             leaf::orientation(t, &a, &b, &c).map_or_else(u64::from, |s| sign_code(Some(s)))
         },
     );
-    let given: Vec<_> = (0..MANY * scale)
+    let given: Vec<_> = (0..scale.of(MANY))
         .map(|_| {
             let t = tolerances(&mut random);
             (t, ask::ranges(&mut random, &t))

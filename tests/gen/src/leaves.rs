@@ -112,6 +112,15 @@ pub fn interval(random: &mut Random) -> [f64; 2] {
     }
 }
 
+/// Three intervals, now and then all of one kind: points, or the same one.
+pub fn interval3(random: &mut Random) -> [[f64; 2]; 3] {
+    match random.below(4) {
+        0 => [(); 3].map(|()| [random.signed(); 2]),
+        1 => [interval(random); 3],
+        _ => [(); 3].map(|()| interval(random)),
+    }
+}
+
 /// Three points of the plane: straight or nearly so, on a lattice, or of any size.
 pub fn turn(random: &mut Random) -> [[f64; 2]; 3] {
     let lattice = |r: &mut Random| [r.between(0, 6) as f64 - 3.0, r.between(0, 6) as f64 - 3.0];
@@ -158,6 +167,28 @@ pub fn frame(random: &mut Random, t: &Tolerances) -> [Point; 3] {
     [origin, normal, hint]
 }
 
+/// Three corners of a face: the area about linear, straight ones, and wild ones.
+pub fn corners(random: &mut Random, t: &Tolerances) -> [Point; 3] {
+    let a = place(random);
+    let (along, aside) = (random.pick(&UNITS), random.pick(&UNITS));
+    let long = random.pick(&[1.0, 1.0, 0.25, 1024.0, t.local, 2.0 * t.linear]);
+    let wide = match random.below(4) {
+        0 => stepped(random, t.linear / long, 3),
+        1 => stepped(random, t.linear, 3),
+        _ => random.unit() * 4.0,
+    };
+    let b = add(a, scale(along, long));
+    let c = match random.below(6) {
+        0 => add(a, scale(along, random.signed())),
+        _ => add(a, scale(aside, wide)),
+    };
+    let mut out = [a, b, c];
+    if random.below(16) == 0 {
+        out[random.below(3)][random.below(3)] = float(random);
+    }
+    out
+}
+
 /// Directions of length one, exactly or nearly.
 const UNITS: [Point; 6] = [
     [1.0, 0.0, 0.0],
@@ -172,7 +203,7 @@ const UNITS: [Point; 6] = [
 const SHARES: [f64; 9] = [0.0, 0.5, 0.75, 1.0, 1.0, 1.0, 1.25, 1.5, 2.0];
 
 /// About a share of local, to a few steps.
-fn about_local(random: &mut Random, t: &Tolerances) -> f64 {
+pub fn about_local(random: &mut Random, t: &Tolerances) -> f64 {
     let x = random.pick(&SHARES) * t.local;
     let x = stepped(random, x, 4);
     signed(random, x)

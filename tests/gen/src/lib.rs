@@ -1,5 +1,6 @@
 //! A seeded generator: jobs, cells and facets as bytes, damaged ones, and questions at the edges of the leaves.
 pub mod cells;
+pub mod cuts;
 pub mod damage;
 pub mod facets;
 pub mod jobs;

@@ -12,8 +12,6 @@ use crate::shim::topo::{BodyId, Face, Model};
 /// The room that `solidjob` lends.
 pub const SOLIDJOB_ROOM: usize = 720;
 
-const MESH_CORNERS: usize = 128;
-
 /// What a caller lends, in corners: the work room and the answer room. None is without limit.
 #[derive(Clone, Copy, Debug, Default)]
 pub struct Lent {
@@ -169,15 +167,20 @@ pub fn mesh_triangles(facet: &[u8], answer: Option<usize>) -> Outcome<Vec<[usize
     let file = read_facet(facet)?;
     let (t, facet) = (file.tolerances, file.facet);
     let corners = facet.points.len();
-    if below(answer, corners) || (answer.is_some() && corners > MESH_CORNERS) {
+    if below(answer, corners) || (answer.is_some() && corners > leaf::MESH_CORNERS) {
         return Err(12);
     }
-    fair(&t)?;
+    triangles_of(&t, &facet)
+}
+
+/// The triangles of a facet that is not too great: 2, 34, 3, then 000's order.
+pub(crate) fn triangles_of(t: &Tolerances, facet: &leaf::Face) -> Outcome<Vec<[usize; 3]>> {
+    fair(t)?;
     if !finite(&facet.plane) || !facet.points.iter().all(|q| finite(q)) {
         return Err(2);
     }
     leaf::plane_basis(&facet.plane)?;
-    if corners < 3 {
+    if facet.points.len() < 3 {
         return Err(3);
     }
     let shadow = |q: &leaf::Point| leaf::projected(&facet.plane, q);
@@ -186,7 +189,7 @@ pub fn mesh_triangles(facet: &[u8], answer: Option<usize>) -> Outcome<Vec<[usize
         .iter()
         .map(shadow)
         .collect::<Outcome<Vec<_>>>()?;
-    leaf::triangles(&t, &points)
+    leaf::triangles(t, &points)
 }
 
 pub fn mesh(facet: &[u8], answer: Option<usize>) -> Outcome<Vec<u8>> {

@@ -1,6 +1,6 @@
 //! The single functions of docs/src and of the stand-ins over plain types, for comparison one by one.
 use crate::answer::Body;
-use crate::calls::body_of;
+use crate::calls::{body_of, triangles_of};
 use crate::mesh::{self, Projected as Shadow};
 use crate::planar::fuse::{self, Use};
 use crate::planar::{self, Poly, Polygon};
@@ -172,6 +172,36 @@ pub fn reciprocal(value: Interval) -> Outcome<Interval> {
     outcome(mesh::reciprocal_positive(value))
 }
 
+pub type Box3 = [Interval; 3];
+
+/// planar.rs's `dot`, of any intervals.
+pub fn dot(a: Box3, b: Box3) -> Interval {
+    a[0] * b[0] + a[1] * b[1] + a[2] * b[2]
+}
+
+pub fn dot_from_zero(a: Box3, b: Box3) -> Interval {
+    mesh::dot(a, b)
+}
+
+/// As `projected` writes it.
+pub fn box_difference(a: Box3, b: Box3) -> Box3 {
+    std::array::from_fn(|i| a[i] - b[i])
+}
+
+/// As `projected` writes it.
+pub fn residual(delta: Box3, direction: Box3, parameter: Interval) -> Box3 {
+    std::array::from_fn(|i| delta[i] - direction[i] * parameter)
+}
+
+/// As `plane_basis` writes it.
+pub fn cross(a: Box3, b: Box3) -> Box3 {
+    [
+        a[1] * b[2] - a[2] * b[1],
+        a[2] * b[0] - a[0] * b[2],
+        a[0] * b[1] - a[1] * b[0],
+    ]
+}
+
 /// The exact sign by whole numbers alone; none where a number is not finite.
 pub fn orient2d(a: [f64; 2], b: [f64; 2], c: [f64; 2]) -> Option<Sign> {
     let flat = |q: [f64; 2]| Point2::new(q[0], q[1]);
@@ -189,6 +219,13 @@ pub fn orient2d_filtered(a: [f64; 2], b: [f64; 2], c: [f64; 2]) -> Option<Sign> 
 pub fn frame(t: &Tolerances, origin: &Point, normal: &Point, hint: &Point) -> Outcome<Plane> {
     let (normal, hint) = (vector(normal), vector(hint));
     let frame = Frame::new(point(origin), normal, hint, &precision(t));
+    outcome(frame).map(|f| plain_plane(geom::Plane::new(f)))
+}
+
+/// The frame of a face from its first three corners, as `read` makes it.
+pub fn face_plane(t: &Tolerances, corners: &[Point; 3]) -> Outcome<Plane> {
+    let [a, b, c] = [0, 1, 2].map(|i| point(&corners[i]));
+    let frame = Frame::new(a, (b - a).cross(c - a), b - a, &precision(t));
     outcome(frame).map(|f| plain_plane(geom::Plane::new(f)))
 }
 
@@ -349,4 +386,68 @@ pub fn triangles(t: &Tolerances, list: &[Projected]) -> Outcome<Vec<[usize; 3]>>
         Sign::Positive,
         &precision(t),
     ))
+}
+
+pub(crate) const MESH_CORNERS: usize = 128;
+
+/// The mesh of one facet: 12, then as `triangles_of`.
+pub fn mesh(t: &Tolerances, facet: &Face) -> Outcome<Vec<[usize; 3]>> {
+    match facet.points.len() > MESH_CORNERS {
+        true => Err(12),
+        false => triangles_of(t, facet),
+    }
+}
+
+// ---- calls made ready, so that their time is that of docs/src alone
+
+pub struct ReadyCut {
+    cell: Poly,
+    plane: geom::Plane,
+    precision: Precision,
+    room: usize,
+}
+
+impl ReadyCut {
+    pub fn new(t: &Tolerances, room: usize, cell: &[Face], p: &Plane) -> Self {
+        ReadyCut {
+            cell: poly(cell),
+            plane: plane(p),
+            precision: precision(t),
+            room,
+        }
+    }
+
+    /// How many faces the part has.
+    pub fn run(&self) -> Outcome<usize> {
+        let work = || planar::clip(&self.cell, self.plane, &self.precision);
+        let part = in_room(Some(self.room), work)?;
+        Ok(part.map_or(0, |c| c.faces.len()))
+    }
+}
+
+pub struct ReadyMesh {
+    points: Vec<Point3>,
+    plane: geom::Plane,
+    precision: Precision,
+}
+
+impl ReadyMesh {
+    pub fn new(t: &Tolerances, facet: &Face) -> Self {
+        ReadyMesh {
+            points: points(&facet.points),
+            plane: plane(&facet.plane),
+            precision: precision(t),
+        }
+    }
+
+    /// How many triangles there are: the handedness, the projections and the triangles.
+    pub fn run(&self) -> Outcome<usize> {
+        let work = || {
+            mesh::plane_basis(&self.plane)?;
+            let shadow = |&q: &Point3| mesh::projected(q, &self.plane);
+            let shadows = self.points.iter().map(shadow).collect::<Result<Vec<_>>>()?;
+            mesh::triangles(&shadows, Sign::Positive, &self.precision)
+        };
+        outcome(work()).map(|t| t.len())
+    }
 }

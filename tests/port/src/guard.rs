@@ -63,6 +63,12 @@ impl<T: Copy> Guarded<T> {
         unsafe { slice::from_raw_parts_mut(self.at, self.n) }.fill(value);
     }
 
+    /// The values, which are as many as there are.
+    pub fn write(&mut self, values: &[T]) {
+        // SAFETY: as above.
+        unsafe { slice::from_raw_parts_mut(self.at, self.n) }.copy_from_slice(values);
+    }
+
     pub fn pointer(&mut self) -> *mut T {
         self.at
     }
@@ -76,5 +82,50 @@ impl<T: Copy> Drop for Guarded<T> {
     fn drop(&mut self) {
         // SAFETY: the pages of `new`.
         unsafe { munmap(self.base.cast(), self.size) };
+    }
+}
+
+/// Memory of which a call takes as much as it needs, always up to the unreadable page.
+pub struct Tail<T: Copy>(Guarded<T>);
+
+impl<T: Copy> Tail<T> {
+    pub fn new(most: usize, value: T) -> Self {
+        Tail(Guarded::new(&vec![value; most]))
+    }
+
+    /// The last n values.
+    pub fn end(&mut self, n: usize) -> *mut T {
+        assert!(n <= self.0.n, "a guarded slice of {n} values is too long");
+        // SAFETY: within the values of `new`.
+        unsafe { self.0.at.add(self.0.n - n) }
+    }
+
+    pub fn slice(&self, n: usize) -> &[T] {
+        &self.0.slice()[self.0.n - n..]
+    }
+
+    pub fn lay(&mut self, values: &[T]) -> *mut T {
+        let at = self.end(values.len());
+        // SAFETY: `at` has as many values, and `self` is borrowed alone.
+        unsafe { slice::from_raw_parts_mut(at, values.len()) }.copy_from_slice(values);
+        at
+    }
+
+    pub fn fill(&mut self, n: usize, value: T) -> *mut T {
+        let at = self.end(n);
+        // SAFETY: as above.
+        unsafe { slice::from_raw_parts_mut(at, n) }.fill(value);
+        at
+    }
+
+    /// Each of the last values anew, by its place from the end.
+    pub fn each(&mut self, mut value: impl FnMut(usize) -> T) {
+        const SOILED: usize = 4096;
+        let n = self.0.n.min(SOILED);
+        let at = self.end(n);
+        for i in 0..n {
+            // SAFETY: as above.
+            unsafe { *at.add(i) = value(i) };
+        }
     }
 }

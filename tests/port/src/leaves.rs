@@ -207,6 +207,13 @@ pub fn contains_range(a: Interval, b: Interval, z: Interval, local: f64) -> bool
     unsafe { raw::leaf_contains_range(a[0], a[1], b[0], b[1], z[0], z[1], local) == 1 }
 }
 
+/// A call of two intervals whose answer is an interval, and those of the port.
+pub type OfTwo = unsafe extern "C" fn(f64, f64, f64, f64, *mut f64, usize);
+
+pub const ADD: OfTwo = raw::leaf_add;
+
+pub const MUL: OfTwo = raw::leaf_mul;
+
 /// Where the leaves that answer an interval write it: two numbers right before an unreadable page.
 pub struct Ends(Guarded<f64>);
 
@@ -223,16 +230,21 @@ impl Ends {
         [self.0.slice()[0], self.0.slice()[1]]
     }
 
+    /// Any call of two intervals.
+    pub fn of_two(&mut self, f: OfTwo, a: Interval, b: Interval) -> Interval {
+        self.call(|p, n| unsafe { f(a[0], a[1], b[0], b[1], p, n) })
+    }
+
     pub fn add(&mut self, a: Interval, b: Interval) -> Interval {
-        self.call(|p, n| unsafe { raw::leaf_add(a[0], a[1], b[0], b[1], p, n) })
+        self.of_two(raw::leaf_add, a, b)
     }
 
     pub fn sub(&mut self, a: Interval, b: Interval) -> Interval {
-        self.call(|p, n| unsafe { raw::leaf_sub(a[0], a[1], b[0], b[1], p, n) })
+        self.of_two(raw::leaf_sub, a, b)
     }
 
     pub fn mul(&mut self, a: Interval, b: Interval) -> Interval {
-        self.call(|p, n| unsafe { raw::leaf_mul(a[0], a[1], b[0], b[1], p, n) })
+        self.of_two(raw::leaf_mul, a, b)
     }
 
     pub fn sqr(&mut self, a: Interval) -> Interval {

@@ -1,3 +1,6 @@
 //! The archives of the port, as Rust calls them: plain types in, plain types out.
+pub mod cutting;
 pub mod guard;
 pub mod leaves;
+pub mod mesh;
+pub mod vectors;

@@ -282,8 +282,12 @@ impl Frame {
 pub mod predicates {
     use super::{big, Interval, Point2, Sign};
 
-    /// The exact sign; intervals decide the clear cases, whole numbers the others.
+    /// The exact sign; intervals decide the clear cases, whole numbers the others. None where a
+    /// number is not finite, also where intervals would decide.
     pub fn orient2d(a: Point2, b: Point2, c: Point2) -> Option<Sign> {
+        if ![a, b, c].iter().all(|q| q.x.is_finite() && q.y.is_finite()) {
+            return None;
+        }
         let gap = |x: f64, y: f64| Interval::point(x) - Interval::point(y);
         let product = gap(b.x, a.x) * gap(c.y, a.y) - gap(b.y, a.y) * gap(c.x, a.x);
         match product.sign() {
