@@ -9,7 +9,7 @@ use Rattle.refusal.specs.declared.Verdict.the-variants as D
 use Rattle.refusal.specs.Outcome.{refusalOf}
 use Rattle.space.specs.declared.Point3.{Point3}
 use Rattle.space.specs.declared.Precision.{Precision}
-use Rattle.space.specs.Shapes.{Face, Cell}
+use Rattle.space.specs.Shapes.{Cell}
 use Rattle.side.specs.declared.Side.{Side}
 use Rattle.side.specs.declared.Side.the-variants.{Positive, Negative, Zero, Refused}
 use Rattle.side.specs.Sides.{sideOf}

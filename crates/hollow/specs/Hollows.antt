@@ -1,11 +1,13 @@
 -- The hollow solid: 28; the solid; its offset; the inner solid built; 7, 29; 5; 12. Definitions only.
-use Prim.Native.Nat.{ℕ}
-use mathlib.Core.Bool.{Bool, true, false, not, _&&_}
-use mathlib.Core.List.{List, [], reverse}
+use Prim.Native.Nat.{ℕ, _+_}
+use mathlib.Core.Bool.{Bool, true, not, _&&_, cond}
+use mathlib.Core.List.{[], reverse}
 use lib.Dec.{ltb}
 use lib.Ieee.{Float, neg}
 use Rattle.float.specs.Float.{finite}
-use Rattle.refusal.specs.Outcome.{Outcome, ok, then, unless, each, heard}
+use Rattle.refusal.specs.declared.Verdict.{Verdict}
+use Rattle.refusal.specs.declared.Verdict.the-variants.{Fine, Refused}
+use Rattle.refusal.specs.Outcome.{Outcome, ok, refusalOf, then, unless, each, heard}
 use Rattle.interval.specs.Ends.{pointI, subI, signOf}
 use Rattle.space.specs.declared.Precision.{Precision}
 use Rattle.space.specs.Shapes.{Face, Cell, corners}
@@ -27,8 +29,11 @@ pub record Hollow : Type 0 where
   pub inner : Cell
 
 -- 12: "last of all when the finished answer has more"
+unfoldable pub roomFor : ℕ → ℕ → Verdict
+roomFor room n = cond (ltb room n) (Refused (refusalOf 12)) Fine
+
 unfoldable pub hollowRoom : ℕ → Hollow → Outcome Hollow
-hollowRoom room h = unless (ltb room (corners (corners 0 (h .outer)) (h .inner))) 12 (ok h)
+hollowRoom room h = heard (roomFor room (corners 0 (h .outer) + corners 0 (h .inner))) h
 
 -- the inner cell is the built one, reversed
 unfoldable pub hollowOf : Precision → ℕ → Cell → Cell → Outcome Hollow

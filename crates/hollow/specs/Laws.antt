@@ -1,15 +1,19 @@
 -- Laws of the hollow solid's parts, in the words of the code.
 use mathlib.Core.Path.{_≡_, refl, sym, ap, _∙_, subst}
+use mathlib.Core.Bool.{true}
 use mathlib.Core.List.{List, [], _∷_, _++_, reverse, reverseAux, reverse-append}
 use Prim.Native.Nat.{ℕ, suc, _+_, _-_, _*_, _≤_, _<_}
 use native.Mathlib.Omega.{arith}
 use lib.ListN.{length, take, drop, getD, set}
 use lib.Seq.{sets, length-sets, take-suc, take-all}
 use lib.Ieee.{Float}
+use borrow.Author.Tests.{lt-ltb, le-ltb}
 use Rattle.refusal.specs.declared.Refusal.{Refusal}
 use Rattle.refusal.specs.declared.Verdict.{Verdict}
 use Rattle.refusal.specs.declared.Verdict.the-variants as D
-use Rattle.refusal.specs.Outcome.{Outcome, ok, refused, then, each}
+use Rattle.refusal.specs.Outcome.{Outcome, ok, refused, refusalOf, then, each, heard}
+use Rattle.refusal.specs.Laws.{stop, go}
+use Rattle.lists.specs.Laws.{cond-yes, cond-no}
 use Rattle.space.specs.declared.Point3.{Point3}
 use Rattle.space.specs.declared.Plane.{Plane}
 use Rattle.space.specs.declared.Precision.{Precision}
@@ -17,13 +21,15 @@ use Rattle.space.specs.Shapes.{Face, Cell, corners}
 use Rattle.side.specs.Sides.{oppositeOf}
 use Rattle.polygon.specs.Memory.{floats, floatsOf, pointAt, pointsAt}
 use Rattle.polygon.specs.Members.{same-ok, then-ok}
-use Rattle.room.specs.Rooms.{planeFloats, faceAt, cellAt, countsAt}
-use Rattle.room.specs.Laws.{sets-append, sets-point, point-of, length-pointsAt, corners-cons, corners-none}
+use Rattle.room.specs.Rooms.{planeFloats, cellFloats, cellCounts, faceAt, cellAt, countsAt}
+use Rattle.room.specs.Laws.{sets-append, sets-point, point-of, length-pointsAt, corners-cons, corners-none, corners-snoc, within-le}
 use Rattle.cell.specs.Laws.{Ahead, ahead-next, ahead-inside, ahead-face, ahead-done}
-use Rattle.bounds.specs.Bounds.{Lies}
+use Rattle.bounds.specs.Bounds.{against, Lies}
 use Rattle.offset.specs.Stored.{FaceMoved, CellMoved, Place}
 use Rattle.offset.specs.Laws.{Listing, listing-start, listing-fits, listing-step, listing-stop, listing-end}
-use Rattle.hollow.specs.Hollows.{reversedFace}
+use Rattle.offset.specs.Whole.{cell-size, cell-not, cell-made}
+use Rattle.hollow.specs.Hollows.{reversedFace, Hollow, roomFor, hollowRoom, hollowOf, hollowIn}
+use Rattle.hollow.specs.Stored.{behind, Walled}
 
 -- ---- points, the last first
 
@@ -154,3 +160,70 @@ module _ {s : List Float} {from : ℕ} {counts : List ℕ} {first n held j : ℕ
 
   pub counting-end : n ≤ j → held ≡ corners 0 (cellAt s from (countsAt counts first n))
   counting-end h = omega (arith, I .left, ap (corners 0) (ahead-done s counts first n (I .o) j h), corners-none)
+
+  pub counting-all : 3 * held ≤ length s
+  counting-all = omega (arith, I .few, within-le (drop j (countsAt counts first n)) (I .o) (length s) (I .ahead .within))
+
+-- ---- the shells
+
+abbrev hollowed : Cell → Cell → Hollow
+hollowed a b = record { outer = a; inner = b }
+
+-- the place behind the outer cell, by its number of corners
+pub place-at : (counts : List ℕ) (first n : ℕ) (d : List Float) (to faces : ℕ) (c : Cell) (sizes : List ℕ) (k x : ℕ) → x ≡ corners 0 c → Place counts first n d (behind to faces c) sizes k →
+    Place counts first n d (to + 12 * faces + 3 * x) sizes k
+place-at counts first n d to faces c sizes k x e p = subst (λ y. Place counts first n d (to + 12 * faces + 3 * y) sizes k) (sym e) p
+
+pub moved-at : (o : Outcome Cell) (n : ℕ) (d₀ : List Float) (to faces : ℕ) (n₀ : List ℕ) (k : ℕ) (d : List Float) (ns : List ℕ) (v : Verdict) (c : Cell) (x : ℕ) → x ≡ corners 0 c →
+    CellMoved o n d₀ (to + 12 * faces + 3 * x) n₀ k d ns v → CellMoved o n d₀ (behind to faces c) n₀ k d ns v
+moved-at o n d₀ to faces n₀ k d ns v c x e m = subst (λ y. CellMoved o n d₀ (to + 12 * faces + 3 * y) n₀ k d ns v) e m
+
+-- 12, or not
+pub room-full : (room n : ℕ) (r : Refusal) → room < n → r ≡ refusalOf 12 → D.Refused r ≡ roomFor room n
+unfolding roomFor
+room-full room n r h e = ap D.Refused e ∙ cond-yes D.Fine (lt-ltb room n h)
+
+pub room-left : (room n : ℕ) → n ≤ room → D.Fine ≡ roomFor room n
+unfolding roomFor
+room-left room n h = cond-no (D.Refused (refusalOf 12)) (le-ltb room n h)
+
+-- a reversed cell has as many corners
+reversed-count : (t : Precision) (l before c : Cell) → each (reversedFace t) before l ≡ ok c → corners 0 c ≡ corners 0 before + corners 0 l
+unfolding each
+reversed-count t [] before c e = ap (corners 0) (sym (same-ok e)) ∙ omega (arith, corners-none)
+reversed-count t (f ∷ l) before c e =
+    let g = then-ok (reversedFace t f) (λ y. each (reversedFace t) (before ++ (y ∷ [])) l) c e in
+    omega (arith, reversed-count t l (before ++ (g .0 ∷ [])) c (g .2), corners-snoc before (g .0), corners-cons f l, reversed-corners t f (g .0) (g .1))
+
+module _ (t : Precision) (room : ℕ) (outer moved built : Cell) (d₀ : List Float) (to : ℕ) (n₀ : List ℕ) (k : ℕ) (v : Verdict) (a : v ≡ against true t outer moved) where
+  pub not-inside : (r : Refusal) → v ≡ D.Refused r → Walled (hollowIn t room outer moved built) d₀ to n₀ k d₀ n₀ v
+  unfolding hollowIn heard Walled
+  not-inside r e =
+      let z : hollowIn t room outer moved built ≡ refused r = ap (λ y. then (heard y built) (hollowOf t room outer)) (sym a ∙ e) in
+      subst (λ o. Walled o d₀ to n₀ k d₀ n₀ v) (sym z) (e, refl, refl)
+
+  module _ (n : ℕ) (d : List Float) (ns : List ℕ) (w : Verdict) (e : v ≡ D.Fine) (F : CellMoved (each (reversedFace t) [] built) n d₀ to n₀ k d ns w) where
+    onward : hollowIn t room outer moved built ≡ hollowOf t room outer built
+    unfolding hollowIn heard
+    onward = ap (λ y. then (heard y built) (hollowOf t room outer)) (sym a ∙ e)
+
+    pub not-reversed : (r : Refusal) → w ≡ D.Refused r → Walled (hollowIn t room outer moved built) d₀ to n₀ k d ns w
+    unfolding hollowOf Walled
+    not-reversed r x =
+        let z : hollowIn t room outer moved built ≡ refused r = onward ∙ stop (each (reversedFace t) [] built) _ r (cell-not n d₀ to n₀ k d ns (each (reversedFace t) [] built) w r F x) in
+        let s = cell-size n d₀ to n₀ k d ns (each (reversedFace t) [] built) w F in
+        subst (λ o. Walled o d₀ to n₀ k d ns w) (sym z) (x, s .0, s .1)
+
+    walled : (c : Cell) (u : Verdict) → CellMoved (ok c) n d₀ to n₀ k d ns w → Walled (heard u (record { outer = outer; inner = c })) d₀ to n₀ k d ns u
+    unfolding CellMoved Walled heard
+    walled c D.Fine h = (refl, h .1, h .2)
+    walled c (D.Refused r) h = (refl, ap length (h .1) ∙ length-sets d₀ to (cellFloats c), ap length (h .2) ∙ length-sets n₀ k (cellCounts c))
+
+    pub all-walled : (p q : ℕ) (u : Verdict) → w ≡ D.Fine → p ≡ corners 0 outer → q ≡ corners 0 built → u ≡ roomFor room (p + q) → Walled (hollowIn t room outer moved built) d₀ to n₀ k d ns u
+    unfolding hollowOf hollowRoom
+    all-walled p q u x ep eq eu =
+        let g = cell-made n d₀ to n₀ k d ns (each (reversedFace t) [] built) w F x in
+        let m : corners 0 outer + corners 0 (g .0) ≡ p + q = omega (arith, ep, eq, reversed-count t built [] (g .0) (g .1), corners-none) in
+        let z : hollowIn t room outer moved built ≡ heard u (record { outer = outer; inner = g .0 }) =
+        onward ∙ go (each (reversedFace t) [] built) _ (g .0) (g .1) ∙ ap (λ y. heard y (hollowed outer (g .0))) (ap (roomFor room) m ∙ sym eu) in
+        subst (λ o. Walled o d₀ to n₀ k d ns u) (sym z) (walled (g .0) u (g .2))

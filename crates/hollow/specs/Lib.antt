@@ -1,2 +1,4 @@
 pub mod Hollows
+pub mod Stored
 pub mod Laws
+pub mod Theorem

@@ -13,7 +13,8 @@ ghost use Rattle.polygon.specs.Memory.{floatsOf, pointsAt};
 ghost use Rattle.room.specs.Rooms.{faceAt, cellAt, countsAt};
 ghost use Rattle.bounds.specs.Bounds.{Lies};
 ghost use Rattle.offset.specs.Stored.{FaceMoved, CellMoved, Place};
-ghost use Rattle.hollow.specs.Hollows.{thick, reversedFace};
+ghost use Rattle.hollow.specs.Hollows.{thick, reversedFace, roomFor, hollowIn};
+ghost use Rattle.hollow.specs.Stored.{behind, Walled, Walls};
 
 // The wall is certified thicker than the linear tolerance.
 pub fn is_thick(t: Precision, w: f64) -> bool
@@ -103,7 +104,7 @@ pub fn reverse_faces(
 // How many corners n faces have.
 fn corners_of(counts: &[u64], first: usize, n: usize, src: &[f64], from: usize) -> usize
     requires { ⌜ Lies (now src) from (now counts) first n ⌝ }
-    ensures { λ r. ⌜ r ≡ corners 0 (cellAt (now (src .entry)) from (countsAt (now (counts .entry)) first n)) ⌝ }
+    ensures { λ r. ⌜ (r ≡ corners 0 (cellAt (now (src .entry)) from (countsAt (now (counts .entry)) first n))) × (3 * r ≤ length (now (src .entry))) ⌝ }
 {
     let mut held = 0;
     let mut j = 0;
@@ -112,4 +113,64 @@ fn corners_of(counts: &[u64], first: usize, n: usize, src: &[f64], from: usize) 
         j += 1;
     }
     held
+}
+
+fn room_for(limit: usize, n: usize) -> Verdict
+    ensures { λ r. ⌜ r ≡ roomFor limit n ⌝ }
+{
+    if limit < n {
+        return Verdict::Refused(refusal::refuse(12));
+    }
+    Verdict::Fine
+}
+
+// The outer cell of `faces` faces stands in `dst` and `sizes` from `to` and `k` on. The moved cell must lie strictly inside it; the built
+// one is put behind it, reversed. What a refusal leaves behind the outer cell is free.
+pub fn hollow_in(
+    t: Precision,
+    limit: usize,
+    moved: &[f64],
+    mat: usize,
+    mcounts: &[u64],
+    mfirst: usize,
+    mn: usize,
+    src: &[f64],
+    from: usize,
+    counts: &[u64],
+    first: usize,
+    n: usize,
+    dst: &mut [f64],
+    to: usize,
+    sizes: &mut [u64],
+    k: usize,
+    faces: usize,
+) -> Verdict
+    requires { ⌜ Walls (now moved) mat (now mcounts) mfirst mn (now src) from (now counts) first n (now dst) to (now sizes) k faces ⌝ }
+    ensures { λ r. ⌜ Walled (hollowIn t limit (cellAt (now (dst .entry)) to (countsAt (now (sizes .entry)) k faces)) (cellAt (now (moved .entry)) mat (countsAt (now (mcounts .entry)) mfirst mn)) (cellAt (now (src .entry)) from (countsAt (now (counts .entry)) first n))) (now (dst .entry)) (behind to faces (cellAt (now (dst .entry)) to (countsAt (now (sizes .entry)) k faces))) (now (sizes .entry)) (k + faces) (now (dst .exit)) (now (sizes .exit)) r ⌝ }
+{
+    let v = bounds::against(
+        true,
+        t,
+        dst,
+        to,
+        sizes,
+        k,
+        faces,
+        moved,
+        mat,
+        mcounts,
+        mfirst,
+        mn,
+    );
+    let Verdict::Fine = v else {
+        return v;
+    };
+    let outer = corners_of(sizes, k, faces, dst, to);
+    let inner = corners_of(counts, first, n, src, from);
+    let at = to + 12 * faces + 3 * outer;
+    let w = reverse_faces(t, src, from, counts, first, n, dst, at, sizes, k + faces);
+    let Verdict::Fine = w else {
+        return w;
+    };
+    room_for(limit, outer + inner)
 }

@@ -1,16 +1,18 @@
 -- Laws of `indexed` that an offset needs: how many points and places there are, and that they are read back from their slices.
 use mathlib.Core.Path.{_≡_, refl, sym, ap, _∙_}
-use mathlib.Core.List.{List, [], _∷_, _++_, map, append-assoc, append-nil}
-use Prim.Native.Nat.{ℕ, zero, suc, _+_, _*_, _≤_}
+use mathlib.Core.Bool.{Bool, true, false}
+use mathlib.Core.List.{List, [], _∷_, _++_, append-assoc, append-nil}
+use Prim.Native.Nat.{ℕ, _+_, _*_, _≤_}
 use native.Mathlib.Omega.{arith}
 use lib.ListN.{length, take, drop, length-append, length-take}
 use lib.Seq.{sets, sets-eq, take-at, drop-at}
+use lib.Dec.{eqb}
 use lib.Ieee.{Float}
 use Rattle.refusal.specs.declared.Refusal.{Refusal}
-use Rattle.refusal.specs.Outcome.{Outcome, ok, refused, then, walk}
+use Rattle.refusal.specs.Outcome.{Outcome, ok, refused, walk}
 use Rattle.space.specs.declared.Point3.{Point3}
 use Rattle.space.specs.declared.Precision.{Precision}
-use Rattle.space.specs.Shapes.{Face, Cell, Solid, corners}
+use Rattle.space.specs.Shapes.{Cell, Solid, corners}
 use Rattle.polygon.specs.Memory.{floatsOf, pointsAt}
 use Rattle.polygon.specs.Members.{same-ok, then-ok}
 use Rattle.room.specs.Rooms.{cellCounts, cellAt, countsAt}
@@ -20,8 +22,6 @@ use Rattle.indexed.specs.declared.Counted.the-variants as C
 use Rattle.indexed.specs.Indexed.{placeIn, Places, joined, placed, indexPoint, indexPoints, withFace, indexFace, indexed}
 use Rattle.indexed.specs.Stored.{flat, Stored}
 use Rattle.solids.specs.Frames.{facesAt, Placing}
-use lib.Dec.{eqb}
-use mathlib.Core.Bool.{Bool, true, false}
 
 -- ---- how many there are
 

@@ -1,8 +1,8 @@
 -- Laws of an offset's loops, in the words of the code.
 use mathlib.Core.Path.{_≡_, refl, sym, ap, _∙_, subst}
-use mathlib.Core.Bool.{Bool, true, false, _&&_}
+use mathlib.Core.Bool.{Bool, false, _&&_}
 use mathlib.Core.List.{List, [], _∷_, _++_, map}
-use Prim.Native.Nat.{ℕ, suc, _+_, _*_, _≤_, _<_}
+use Prim.Native.Nat.{ℕ, _+_, _*_, _≤_, _<_}
 use native.Mathlib.Omega.{arith}
 use native.Mathlib.Numerals.{add-one}
 use lib.ListN.{length, take, drop, getD, set, length-append, length-take, length-drop, length-map}
@@ -17,25 +17,19 @@ use Rattle.lists.specs.Laws.{next, done}
 use Rattle.lists.specs.Walks.{all}
 use Rattle.space.specs.declared.Point3.{Point3}
 use Rattle.space.specs.declared.Plane.{Plane}
-use Rattle.space.specs.declared.Planed.{Planed}
-use Rattle.space.specs.declared.Planed.the-variants as P
 use Rattle.space.specs.declared.Precision.{Precision}
-use Rattle.space.specs.Frames.{planed}
 use Rattle.space.specs.Shapes.{Face, Cell, corners}
 use Rattle.polygon.specs.Memory.{floats, floatsOf, pointAt, pointsAt}
 use Rattle.polygon.specs.Members.{same-ok, then-ok}
-use Rattle.room.specs.Rooms.{planeFloats, planeAt, faceFloats, cellFloats, cellCounts, faceAt, cellAt, countsAt, Within, Small}
-use Rattle.room.specs.Laws.{sets-append, sets-point, points-more, floats-more, counts-more, next-point, points-done, next-count, counts-done, cell-next, within-small, within-rest, within-le, corners-snoc, corners-none, all-none, all-snoc}
-use Rattle.cell.specs.Laws.{Ahead, ahead-next, ahead-inside, ahead-small, ahead-done}
+use Rattle.room.specs.Rooms.{planeFloats, faceFloats, cellFloats, cellCounts, faceAt, cellAt, countsAt, Within, Small}
+use Rattle.room.specs.Laws.{sets-append, sets-point, points-more, floats-more, counts-more, next-point, points-done, next-count, counts-done, within-small, within-rest, within-le, corners-snoc, corners-none, all-none, all-snoc}
+use Rattle.cell.specs.Laws.{Ahead, ahead-next, ahead-inside, ahead-done}
 use Rattle.solids.specs.Sides.{has}
 use Rattle.solids.specs.Frames.{pointOf, facesAt, Placing}
 use Rattle.solids.specs.Faces.{placing-le}
-use Rattle.bounds.specs.Bounds.{Lies}
 use Rattle.shift.specs.declared.Push.{Push}
 use Rattle.shift.specs.declared.Meeting.{Meeting}
-use Rattle.shift.specs.declared.Shifted.{Shifted}
-use Rattle.shift.specs.declared.Shifted.the-variants as M
-use Rattle.shift.specs.Shifts.{shiftedTo, pushOf, meeting, notedIf, pushIf, movedAt, movedPlane}
+use Rattle.shift.specs.Shifts.{meeting, notedIf, pushIf, movedAt, movedPlane}
 use Rattle.shift.specs.Laws.{meeting-next, meeting-count}
 use Rattle.offset.specs.Offsets.{Moving, moving, pushes, movePoints, moveFace}
 use Rattle.offset.specs.Stored.{Source, movingAt, PointsMoved, FaceMoved, CellMoved, Place}

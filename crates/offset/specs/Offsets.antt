@@ -1,6 +1,6 @@
 -- `offset_distances` and `offset`: 2; 6; 24, 25, 26 point by point; 5 face by face; 7 and 27. Definitions only.
 use Prim.Native.Nat.{ℕ, suc}
-use mathlib.Core.Bool.{Bool, true, false, not}
+use mathlib.Core.Bool.{true, false, not}
 use mathlib.Core.List.{List, [], _∷_, _++_, map}
 use lib.ListN.{length, replicate}
 use lib.Ieee.{Float}

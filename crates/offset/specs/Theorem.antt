@@ -12,11 +12,11 @@ use Rattle.float.specs.Float.{finite}
 use Rattle.lists.specs.Walks.{all}
 use Rattle.refusal.specs.declared.Verdict.{Verdict}
 use Rattle.refusal.specs.declared.Verdict.the-variants as D
-use Rattle.refusal.specs.Outcome.{Outcome, ok, then, unless, each, heard}
+use Rattle.refusal.specs.Outcome.{ok, then, each, heard}
 use Rattle.space.specs.declared.Point3.{Point3}
 use Rattle.space.specs.declared.Precision.{Precision}
 use Rattle.space.specs.Vector.{subV, addV, crossV}
-use Rattle.space.specs.Shapes.{Face, Cell, Solid}
+use Rattle.space.specs.Shapes.{Cell, Solid}
 use Rattle.side.specs.declared.Side.the-variants as S
 use Rattle.side.specs.Sides.{sideOf}
 use Rattle.polygon.specs.Members.{All, same-ok, never-ok, then-ok}
@@ -91,7 +91,7 @@ pub record Answered (t : Precision) (ds : List Float) (c e : Cell) : Type 0 wher
   pub faces : each (moveFace t points) [] (moving c (solid .faces) ds) ≡ ok e
   pub under : All (λ f. All (λ q. All (λ b. sideOf t (b .plane) q ≡ S.Positive → ⊥) e) (f .points)) e
 
-heard-ok : {A : Type 0} (v : Verdict) (a b : A) → heard v a ≡ ok b → (v ≡ D.Fine) × (a ≡ b)
+pub heard-ok : {A : Type 0} (v : Verdict) (a b : A) → heard v a ≡ ok b → (v ≡ D.Fine) × (a ≡ b)
 unfolding heard
 heard-ok D.Fine a b e = (refl, same-ok e)
 heard-ok (D.Refused r) a b e = never-ok e

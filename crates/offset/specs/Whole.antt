@@ -1,13 +1,12 @@
 -- Laws of the whole offset: its stages one after another.
 use mathlib.Core.Path.{_≡_, refl, sym, ap, _∙_, subst}
-use mathlib.Core.Bool.{Bool, true, false, not}
-use mathlib.Core.List.{List, [], _∷_, _++_}
+use mathlib.Core.Bool.{true, false, not}
+use mathlib.Core.List.{List, [], _++_}
 use Prim.Native.Nat.{ℕ, _+_, _*_, _≤_}
 use native.Mathlib.Omega.{arith}
 use lib.ListN.{length, take, drop, replicate, length-drop, length-take, length-replicate}
 use lib.Seq.{sets, length-sets, take-at}
 use lib.Ieee.{Float}
-use borrow.Author.Tests.{not-true, not-false}
 use Rattle.float.specs.Float.{finite}
 use Rattle.lists.specs.Walks.{all}
 use Rattle.refusal.specs.declared.Refusal.{Refusal}
@@ -17,18 +16,18 @@ use Rattle.refusal.specs.Outcome.{Outcome, ok, refused, refusalOf, then, unless
 use Rattle.refusal.specs.Laws.{stop, go}
 use Rattle.space.specs.declared.Point3.{Point3}
 use Rattle.space.specs.declared.Precision.{Precision}
-use Rattle.space.specs.Shapes.{Face, Cell, Solid, corners}
+use Rattle.space.specs.Shapes.{Cell, corners}
 use Rattle.polygon.specs.Memory.{floatsOf, pointsAt}
-use Rattle.room.specs.Rooms.{cellFloats, cellCounts, cellAt, countsAt, Within, Small}
-use Rattle.room.specs.Laws.{points-stored, cell-stored, within-stored, length-cellFloats, length-cellCounts, length-floatsOf}
+use Rattle.room.specs.Rooms.{cellFloats, cellCounts, cellAt, countsAt, Within}
+use Rattle.room.specs.Laws.{points-stored, cell-stored, within-stored, length-cellFloats, length-cellCounts}
 use Rattle.indexed.specs.declared.Counted.{Counted}
 use Rattle.indexed.specs.declared.Counted.the-variants as C
 use Rattle.indexed.specs.Indexed.{indexed}
-use Rattle.indexed.specs.Stored.{flat, Stored, Fits}
+use Rattle.indexed.specs.Stored.{flat, Stored}
 use Rattle.solids.specs.Frames.{facesAt}
 use Rattle.bounds.specs.Bounds.{against, Lies}
 use Rattle.offset.specs.Offsets.{Moving, moving, movePoints, moveFace, notCrossed, moveAll, offsetDistances, offsetCell}
-use Rattle.offset.specs.Stored.{Source, movingAt, PointsMoved, CellMoved, Place, Ready}
+use Rattle.offset.specs.Stored.{Source, movingAt, PointsMoved, CellMoved, Ready}
 use Rattle.offset.specs.Indexes.{run-back, cell-counts, placing-fits, stored-made, stored-not, indexed-few, indexed-points, indexed-faces}
 
 -- ---- what the answers of the stages say
@@ -54,12 +53,12 @@ module _ (n : ℕ) (d₀ : List Float) (to : ℕ) (n₀ : List ℕ) (k : ℕ) (d
   cell-size (ok c) v h = (ap length (h .1) ∙ length-sets d₀ to (cellFloats c), ap length (h .2) ∙ length-sets n₀ k (cellCounts c))
   cell-size (refused r) v h = (h .1, h .2)
 
-  cell-not : (o : Outcome Cell) (v : Verdict) (r : Refusal) → CellMoved o n d₀ to n₀ k d ns v → v ≡ D.Refused r → o ≡ refused r
+  pub cell-not : (o : Outcome Cell) (v : Verdict) (r : Refusal) → CellMoved o n d₀ to n₀ k d ns v → v ≡ D.Refused r → o ≡ refused r
   unfolding CellMoved
   cell-not (ok c) v r h e = absurd (let a = h .0 in let z : _≡_ {A = ℕ} 0 1 = cc in omega arith)
   cell-not (refused y) v r h e = let a = h .0 in let b : y ≡ r = cc in ap refused b
 
-  cell-made : (o : Outcome Cell) (v : Verdict) → CellMoved o n d₀ to n₀ k d ns v → v ≡ D.Fine → (c : Cell) × (o ≡ ok c) × CellMoved (ok c) n d₀ to n₀ k d ns v
+  pub cell-made : (o : Outcome Cell) (v : Verdict) → CellMoved o n d₀ to n₀ k d ns v → v ≡ D.Fine → (c : Cell) × (o ≡ ok c) × CellMoved (ok c) n d₀ to n₀ k d ns v
   unfolding CellMoved
   cell-made (ok c) v h e = (c, refl, h)
   cell-made (refused r) v h e = absurd (let a = h .0 in let z : _≡_ {A = ℕ} 0 1 = cc in omega arith)

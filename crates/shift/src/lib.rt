@@ -11,7 +11,7 @@ ghost use mathlib.Core.List.{[]};
 ghost use Prim.Native.Nat.{_<_};
 ghost use Rattle.refusal.specs.Outcome.{ok, unless};
 ghost use Rattle.space.specs.Frames.{planed};
-ghost use Rattle.shift.specs.Shifts.{shiftedTo, pushOf, meeting, noted, notedIf, deltaOf, residual, outside, missed, movedTo, flat, movedBy, movedAt, movedPlane};
+ghost use Rattle.shift.specs.Shifts.{shiftedTo, meeting, noted, notedIf, deltaOf, residual, outside, missed, movedTo, flat, movedBy, movedAt, movedPlane};
 
 // A face that meets a vertex: its normal, and how far it is pushed.
 pub struct Push {

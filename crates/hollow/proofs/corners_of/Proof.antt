@@ -1,7 +1,7 @@
 use borrow.Author.Needs.{needs}
 use Prim.Native.Nat.{_-_}
 use native.Mathlib.Omega.{arith}
-use Rattle.hollow.specs.Laws.{Counting, counting-start, counting-few, counting-step, counting-end}
+use Rattle.hollow.specs.Laws.{Counting, counting-start, counting-few, counting-step, counting-end, counting-all}
 use Rattle.hollow.proofs.corners_of.Statement.{statement}
 use Rattle.hollow.proofs.corners_of.Tie as tie
 
@@ -44,7 +44,7 @@ loop-again c =
     counting-step (L .loop .inv) (S .pre) (T .loop-test .taken)
 
 returns : tie.Need-returns Inv-loop μ-loop
-returns c = counting-end (c .before .loop .inv) (c .before .before .pre) (c .loop-test .left)
+returns c = (counting-end (c .before .loop .inv) (c .before .before .pre) (c .loop-test .left), counting-all (c .before .loop .inv) (c .before .before .pre))
 
 pub corners-of-spec : {M : Type 1} → statement M
 corners-of-spec =

@@ -1,5 +1,4 @@
 use borrow.Author.Needs.{needs}
-use mathlib.Core.Path.{refl}
 use native.Mathlib.Omega.{arith}
 use Rattle.hollow.specs.Laws.{Turning, turning-start, turning-step, turning-end}
 use Rattle.hollow.proofs.reverse_points.Statement.{statement}

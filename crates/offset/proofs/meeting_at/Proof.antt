@@ -1,5 +1,4 @@
 use borrow.Author.Needs.{needs}
-use mathlib.Core.Path.{refl}
 use Prim.Native.Nat.{_-_}
 use native.Mathlib.Omega.{arith}
 use Rattle.offset.specs.Laws.{Gathering, gathering-start, gathering-few, gathering-step, gathering-end, along-inside, along-few}

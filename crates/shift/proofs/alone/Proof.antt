@@ -1,4 +1,3 @@
-use borrow.Author.Needs.{needs}
 use Rattle.shift.specs.Shifts.{meeting}
 use Rattle.shift.proofs.alone.Statement.{statement}
 use Rattle.shift.proofs.alone.Tie as tie

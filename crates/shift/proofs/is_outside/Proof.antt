@@ -1,4 +1,3 @@
-use borrow.Author.Needs.{needs}
 use Rattle.shift.specs.Shifts.{outside}
 use Rattle.shift.proofs.is_outside.Statement.{statement}
 use Rattle.shift.proofs.is_outside.Tie as tie
