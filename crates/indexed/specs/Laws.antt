@@ -31,6 +31,17 @@ use Rattle.indexed.specs.declared.Counted.the-variants as C
 use Rattle.indexed.specs.Indexed.{Search, placeIn, met, onlyIn, searchBy, Places, joined, placed, indexPoint, indexPoints, withFace, indexFace, indexFaces}
 use Rattle.indexed.specs.Stored.{counted, flat, joinedAt, more, Pointed, Placed, Stored, Fits}
 
+-- what is known of an answer that says so
+pub counted-made : (r : Counted) (n : ℕ) → counted r ≡ ok n → r ≡ C.Made n
+unfolding counted
+counted-made (C.Made m) n e = cc
+counted-made (C.Refused x) n e = absurd (let z : _≡_ {A = ℕ} 0 1 = cc in omega arith)
+
+pub counted-refused : (r : Counted) (x : Refusal) → counted r ≡ refused x → r ≡ C.Refused x
+unfolding counted
+counted-refused (C.Made m) x e = absurd (let z : _≡_ {A = ℕ} 0 1 = cc in omega arith)
+counted-refused (C.Refused y) x e = cc
+
 -- ---- one point of a search
 
 module _ (t : Precision) (q : Point3) (i : ℕ) (r : Point3) (l : List Point3) where

@@ -22,20 +22,10 @@ use Rattle.indexed.specs.declared.Counted.the-variants as C
 use Rattle.indexed.specs.declared.Pick.the-variants.{Only}
 use Rattle.indexed.specs.Indexed.{searchBy, indexFaces}
 use Rattle.indexed.specs.Stored.{counted, flat, Stored}
-use Rattle.indexed.specs.Laws.{place-more, stored-points, stored-places}
+use Rattle.indexed.specs.Laws.{place-more, counted-made, counted-refused}
 use Rattle.merge.specs.Merge.{capped, merge, ownersFrom}
 
 -- ---- 14 after all
-
-counted-made : (r : Counted) (n : ℕ) → counted r ≡ ok n → r ≡ C.Made n
-unfolding counted
-counted-made (C.Made m) n e = cc
-counted-made (C.Refused x) n e = absurd (let z : _≡_ {A = ℕ} 0 1 = cc in omega arith)
-
-counted-refused : (r : Counted) (x : Refusal) → counted r ≡ refused x → r ≡ C.Refused x
-unfolding counted
-counted-refused (C.Made m) x e = absurd (let z : _≡_ {A = ℕ} 0 1 = cc in omega arith)
-counted-refused (C.Refused y) x e = cc
 
 module _ (t : Precision) (c : Cell) (p₀ : List Float) (i₀ : List ℕ) (p : List Float) (i : List ℕ) where
   stopped : (o : Outcome Solid) (r : Counted) (x : Refusal) → indexFaces (searchBy Only t) c ≡ o → r ≡ C.Refused x → Stored o p₀ i₀ p i r → Stored (merge t c) p₀ i₀ p i r
