@@ -3,7 +3,7 @@ use mathlib.Core.Path.{_≡_, refl, sym, ap, _∙_, subst}
 use mathlib.Core.Bool.{Bool, true, false, not, _&&_, Bool·beq, cond}
 use Prim.Native.Nat.{ℕ, zero, suc, _+_, _-_, _*_, _/_, _%_, _^_, _≤_, _<_}
 use native.Mathlib.Omega.{arith}
-use borrow.Author.Tests.{lt-leb, le-leb, lt-ltb}
+use borrow.Author.Tests.{lt-leb, le-leb, lt-ltb, le-ltb, eq-eqb, ne-eqb}
 use lib.Dec.{T, ltb, eqb, leb, eqb-refl, not-T, T-not, ltb→lt, nltb→le, eqb→eq}
 use lib.Ieee.{Format, emax, round, units, odd, Float, nan, inf, fin, up, down, prec, low, binary64, isNan, ne, eq, nanBits, toBits, ofBits, fits, neg, sub, sum}
 use lib.Ieee.Fits.{neg-fits, eq→eqb, round-is}
@@ -71,19 +71,30 @@ step-plain n w h = go (ltb n infBits) (ltb→lt n infBits) (nltb→le n infBits)
     go false p q false r s true t = omega arith
     go false p q false r s false t = let k = q tt in let l : n ≡ signBit → ⊥ = t tt in omega arith
 
--- without a branch on the sign
-pub step-is : (n : ℕ) → n < 2 * signBit → n % signBit ≤ infBits → cond (eqb n infBits) n (cond (eqb n signBit) 1 (n - 2 * (n / signBit) + 1)) ≡ nextBits n
+-- the four ways through `next_bits`
+pub step-up : (b : ℕ) → b < infBits → b + 1 ≡ nextBits b
 unfolding nextBits
-step-is n w h = go (ltb n infBits) (ltb→lt n infBits) (nltb→le n infBits) (eqb n infBits) (eqb→eq n infBits) (λ t e. T-not (eqb n infBits) t (eq→eqb e)) (eqb n signBit) (eqb→eq n signBit)
-  where
-    go : (a : Bool) → (T a → n < infBits) → (T (not a) → infBits ≤ n) → (b : Bool) → (T b → n ≡ infBits) → (T (not b) → n ≡ infBits → ⊥) → (d : Bool) → (T d → n ≡ signBit)
-        → cond b n (cond d 1 (n - 2 * (n / signBit) + 1)) ≡ cond a (n + 1) (cond b n (cond d 1 (n - 1)))
-    go true p q true r s d t = let k = p tt in let l = r tt in absurd (omega arith)
-    go true p q false r s true t = let k = p tt in let l = t tt in absurd (omega arith)
-    go true p q false r s false t = let k = p tt in omega arith
-    go false p q true r s d t = refl
-    go false p q false r s true t = refl
-    go false p q false r s false t = let k = q tt in let l : n ≡ infBits → ⊥ = s tt in omega arith
+step-up b h = sym (ap (λ t. cond t (b + 1) (cond (eqb b infBits) b (cond (eqb b signBit) 1 (b - 1)))) (lt-ltb b infBits h))
+
+-- past +infinity
+step-past : (b : ℕ) → infBits < b → cond (eqb b signBit) 1 (b - 1) ≡ nextBits b
+unfolding nextBits
+step-past b h =
+    sym (ap (λ t. cond t (b + 1) (cond (eqb b infBits) b (cond (eqb b signBit) 1 (b - 1)))) (le-ltb b infBits (omega arith))
+    ∙ ap (λ t. cond t b (cond (eqb b signBit) 1 (b - 1))) (ne-eqb b infBits (λ e. omega arith)))
+
+pub step-back : (b : ℕ) → signBit < b → b - 1 ≡ nextBits b
+step-back b h = sym (ap (λ t. cond t 1 (b - 1)) (ne-eqb b signBit (λ e. omega arith))) ∙ step-past b (omega arith)
+
+pub step-zero : (b : ℕ) → b ≡ signBit → 1 ≡ nextBits b
+step-zero b e = sym (ap (λ t. cond t 1 (b - 1)) (eq-eqb b signBit e)) ∙ step-past b (omega (arith, e))
+
+pub step-stays : (b : ℕ) → infBits ≤ b → b ≤ signBit → (b ≡ signBit → ⊥) → b % signBit ≤ infBits → b ≡ nextBits b
+unfolding nextBits
+step-stays b l h n m =
+    let e : b ≡ infBits = omega arith in
+    sym (ap (λ t. cond t (b + 1) (cond (eqb b infBits) b (cond (eqb b signBit) 1 (b - 1)))) (le-ltb b infBits l)
+    ∙ ap (λ t. cond t b (cond (eqb b signBit) 1 (b - 1))) (eq-eqb b infBits e))
 
 pub abs-negative : (x : Float) → negative x ≡ true → neg x ≡ abs x
 unfolding neg

@@ -2,7 +2,7 @@
 // and the order of totalOrder. Each contract is one equation with a definition of `specs/Float.antt`
 // or of the library's IEEE 754; `proofs/Laws.antt` has the laws that callers cite.
 ghost use mathlib.Core.Path.{_≡_};
-ghost use mathlib.Core.Bool.{false, _||_, cond};
+ghost use mathlib.Core.Bool.{false, _||_};
 ghost use Prim.Native.Nat.{_%_, _≤_};
 ghost use lib.Ieee.{isNan, inf, binary64, toBits, ofBits};
 ghost use Rattle.float.specs.Float.{infBits, signBit, nextBits, negative, nextUp, nextDown, abs, finite, lesser, greater, before};
@@ -38,21 +38,21 @@ pub fn float_of(b: u64) -> f64
     0.0 / 0.0
 }
 
-fn pick(t: bool, x: u64, y: u64) -> u64
-    ensures { λ r. ⌜ r ≡ cond t x y ⌝ }
-{
-    if t { x } else { y }
-}
-
-// The pattern after b, which is no NaN's. It has no branch on the sign, which no processor guesses:
-// one more, and two less where the sign is set.
+// The pattern after b, which is no NaN's. Its branches are guessed, so that the next step need not wait for this one.
 fn next_bits(b: u64) -> u64
     requires { ⌜ b % signBit ≤ infBits ⌝ }
     ensures { λ r. ⌜ r ≡ nextBits b ⌝ }
 {
-    let stepped = b - 2 * (b / SIGN_BIT) + 1;
-    let up = pick(b == SIGN_BIT, 1, stepped);
-    pick(b == INF_BITS, b, up)
+    if b < INF_BITS {
+        return b + 1;
+    }
+    if SIGN_BIT < b {
+        return b - 1;
+    }
+    if b == SIGN_BIT {
+        return 1;
+    }
+    b
 }
 
 pub fn next_up(x: f64) -> f64

@@ -16,13 +16,16 @@ const WHOLE: Interval = Interval {
 };
 
 fn next_bits(b: u64) -> u64 {
-    let stepped = b - 2 * (b / SIGN_BIT) + 1;
-    let up = if b == SIGN_BIT { 1 } else { stepped };
-    if b == INF_BITS {
-        b
-    } else {
-        up
+    if b < INF_BITS {
+        return b + 1;
     }
+    if SIGN_BIT < b {
+        return b - 1;
+    }
+    if b == SIGN_BIT {
+        return 1;
+    }
+    b
 }
 
 fn next_up(x: f64) -> f64 {
