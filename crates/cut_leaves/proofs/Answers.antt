@@ -13,7 +13,7 @@ use Rattle.refusal.specs.Outcome.{Outcome, ok, refused, unless, numberOf}
 use Rattle.space.specs.declared.Point3.{Point3}
 use Rattle.space.specs.declared.Plane.{Plane}
 use Rattle.space.specs.declared.Precision.{Precision}
-use Rattle.space.specs.Shapes.{Cell, Part, nothing, part, corners}
+use Rattle.space.specs.Shapes.{Cell, Part, corners}
 use Rattle.polygon.specs.declared.Polygon.{Polygon}
 use Rattle.polygon.specs.declared.Made.{Made}
 use Rattle.polygon.specs.Polygons.{cornersOf, polygon, made}

@@ -71,29 +71,30 @@ step-plain n w h = go (ltb n infBits) (ltb→lt n infBits) (nltb→le n infBits)
     go false p q false r s true t = omega arith
     go false p q false r s false t = let k = q tt in let l : n ≡ signBit → ⊥ = t tt in omega arith
 
--- the four cases of the pattern after n
-pub next-low : (n : ℕ) → n < infBits → n + 1 ≡ nextBits n
+-- the four ways through `next_bits`
+pub step-up : (b : ℕ) → b < infBits → b + 1 ≡ nextBits b
 unfolding nextBits
-next-low n h = sym (ap (λ t. cond t (n + 1) (cond (eqb n infBits) n (cond (eqb n signBit) 1 (n - 1)))) (lt-ltb n infBits h))
+step-up b h = sym (ap (λ t. cond t (b + 1) (cond (eqb b infBits) b (cond (eqb b signBit) 1 (b - 1)))) (lt-ltb b infBits h))
 
-pub next-inf : (n : ℕ) → n ≡ infBits → n ≡ nextBits n
+-- past +infinity
+step-past : (b : ℕ) → infBits < b → cond (eqb b signBit) 1 (b - 1) ≡ nextBits b
 unfolding nextBits
-next-inf n e =
-    sym (ap (λ t. cond t (n + 1) (cond (eqb n infBits) n (cond (eqb n signBit) 1 (n - 1)))) (le-ltb n infBits (omega arith)) ∙ ap (λ t. cond t n (cond (eqb n signBit) 1 (n - 1))) (eq-eqb n infBits e))
+step-past b h =
+    sym (ap (λ t. cond t (b + 1) (cond (eqb b infBits) b (cond (eqb b signBit) 1 (b - 1)))) (le-ltb b infBits (omega arith))
+    ∙ ap (λ t. cond t b (cond (eqb b signBit) 1 (b - 1))) (ne-eqb b infBits (λ e. omega arith)))
 
-pub next-sign : (n : ℕ) → n ≡ signBit → 1 ≡ nextBits n
-unfolding nextBits
-next-sign n e =
-    sym (ap (λ t. cond t (n + 1) (cond (eqb n infBits) n (cond (eqb n signBit) 1 (n - 1)))) (le-ltb n infBits (omega arith))
-    ∙ ap (λ t. cond t n (cond (eqb n signBit) 1 (n - 1))) (ne-eqb n infBits (λ g. omega (arith, e, g)))
-    ∙ ap (λ t. cond t 1 (n - 1)) (eq-eqb n signBit e))
+pub step-back : (b : ℕ) → signBit < b → b - 1 ≡ nextBits b
+step-back b h = sym (ap (λ t. cond t 1 (b - 1)) (ne-eqb b signBit (λ e. omega arith))) ∙ step-past b (omega arith)
 
-pub next-high : (n : ℕ) → infBits ≤ n → (n ≡ infBits → ⊥) → (n ≡ signBit → ⊥) → n - 1 ≡ nextBits n
+pub step-zero : (b : ℕ) → b ≡ signBit → 1 ≡ nextBits b
+step-zero b e = sym (ap (λ t. cond t 1 (b - 1)) (eq-eqb b signBit e)) ∙ step-past b (omega (arith, e))
+
+pub step-stays : (b : ℕ) → infBits ≤ b → b ≤ signBit → (b ≡ signBit → ⊥) → b % signBit ≤ infBits → b ≡ nextBits b
 unfolding nextBits
-next-high n h a b =
-    sym (ap (λ t. cond t (n + 1) (cond (eqb n infBits) n (cond (eqb n signBit) 1 (n - 1)))) (le-ltb n infBits h)
-    ∙ ap (λ t. cond t n (cond (eqb n signBit) 1 (n - 1))) (ne-eqb n infBits a)
-    ∙ ap (λ t. cond t 1 (n - 1)) (ne-eqb n signBit b))
+step-stays b l h n m =
+    let e : b ≡ infBits = omega arith in
+    sym (ap (λ t. cond t (b + 1) (cond (eqb b infBits) b (cond (eqb b signBit) 1 (b - 1)))) (le-ltb b infBits l)
+    ∙ ap (λ t. cond t b (cond (eqb b signBit) 1 (b - 1))) (eq-eqb b infBits e))
 
 pub abs-negative : (x : Float) → negative x ≡ true → neg x ≡ abs x
 unfolding neg

@@ -38,8 +38,7 @@ pub fn float_of(b: u64) -> f64
     0.0 / 0.0
 }
 
-// The pattern after b, which is no NaN's. A branch on the sign is guessed well where numbers keep their signs, and costs no more
-// than arithmetic where they don't.
+// The pattern after b, which is no NaN's. Its branches are guessed, so that the next step need not wait for this one.
 fn next_bits(b: u64) -> u64
     requires { ⌜ b % signBit ≤ infBits ⌝ }
     ensures { λ r. ⌜ r ≡ nextBits b ⌝ }
@@ -47,13 +46,13 @@ fn next_bits(b: u64) -> u64
     if b < INF_BITS {
         return b + 1;
     }
-    if b == INF_BITS {
-        return b;
+    if SIGN_BIT < b {
+        return b - 1;
     }
     if b == SIGN_BIT {
         return 1;
     }
-    b - 1
+    b
 }
 
 pub fn next_up(x: f64) -> f64

@@ -2,8 +2,6 @@
 use Prim.Native.Nat.{ℕ}
 use mathlib.Core.List.{List}
 use lib.Ieee.{Float}
-use Rattle.refusal.specs.declared.Refusal.{Refusal}
-use Rattle.interval.specs.declared.Interval.{Interval}
 use Rattle.interval.specs.declared.Sign.{Sign}
 use Rattle.interval.specs.declared.Sign.the-variants as S
 use Rattle.interval.specs.declared.Inverse.{Inverse}

@@ -17,7 +17,7 @@ use Rattle.space.specs.Shapes.{Face}
 use Rattle.ears.specs.declared.Triangle.{Triangle}
 use Rattle.mesh.specs.declared.Meshed.{Meshed}
 use Rattle.mesh.specs.Mesh.{facet, meshOf, fairFacet, meshOn, triples, meshed}
-use Rattle.mesh.specs.Theorems.{FacetMesh, facet-mesh}
+use Rattle.mesh.specs.Theorems.{facet-mesh}
 use Rattle.lent.specs.Lent.{numberBy, whereFine}
 use Rattle.lent.specs.Laws.{and-left, and-right}
 use Rattle.mesh_leaf.specs.Drawing.{trianglesIn, places, placesTold, countTold, Drawn, meshFits, meshLent}

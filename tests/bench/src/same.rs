@@ -19,13 +19,13 @@ fn next_bits(b: u64) -> u64 {
     if b < INF_BITS {
         return b + 1;
     }
-    if b == INF_BITS {
-        return b;
+    if SIGN_BIT < b {
+        return b - 1;
     }
     if b == SIGN_BIT {
         return 1;
     }
-    b - 1
+    b
 }
 
 fn next_up(x: f64) -> f64 {

@@ -38,12 +38,62 @@ fn pattern(random: &mut Random) -> u64 {
     }
 }
 
+/// The questions on the two sides of the place where an answer changes.
+const CHANGES: usize = 20_000;
+
 pub fn compare(report: &mut Report, seed: u64, scale: Scale) {
     floats(report, seed, scale);
     intervals(report, seed + 1, scale);
     points(report, seed + 2, scale);
     frames(report, seed + 3, scale);
     turns(report, seed + 4, scale);
+    changes(report, seed + 5, scale);
+}
+
+/// Near, side and mesh orientation where their answers change.
+fn changes(report: &mut Report, seed: u64, scale: Scale) {
+    let mut random = Random::new(seed);
+    let mut each = || -> Vec<Tolerances> {
+        (0..scale.of(CHANGES))
+            .map(|_| tolerances(&mut random))
+            .collect()
+    };
+    let [near, sides, turns] = [each(), each(), each()];
+    let mut random = Random::new(seed + 10);
+    let given = near.into_iter().flat_map(|t| {
+        let pairs = ask::near_edge(&mut random, &t);
+        pairs.map(|q| (t, q))
+    });
+    report.ask(
+        "near, at the change",
+        given,
+        |(t, q)| ours::near(q[0], q[1], t.local),
+        |(t, q)| leaf::near(t, &q[0], &q[1]).map_or_else(u64::from, u64::from),
+    );
+    let mut random = Random::new(seed + 11);
+    let given = sides.into_iter().flat_map(|t| {
+        let points = ask::side_edge(&mut random, &t);
+        points.map(|(w, q)| (t, w, q))
+    });
+    report.ask(
+        "side, at the change",
+        given,
+        |(t, w, q)| ours::side(w, q, t.local),
+        |(t, w, q)| leaf::side(t, w, q).map_or_else(u64::from, |s| sign_code(Some(s))),
+    );
+    let mut random = Random::new(seed + 12);
+    let given = turns.into_iter().flat_map(|t| {
+        let corners = ask::shadows_edge(&mut random, &t);
+        corners.map(|c| (t, c))
+    });
+    report.ask(
+        "mesh orientation, change",
+        given,
+        |(t, c)| ours::orientation(&c.map(|s| [ends(s.x), ends(s.y)]), t.local),
+        |(t, [a, b, c])| {
+            leaf::orientation(t, a, b, c).map_or_else(u64::from, |s| sign_code(Some(s)))
+        },
+    );
 }
 
 fn floats(report: &mut Report, seed: u64, scale: Scale) {

@@ -1,4 +1,3 @@
-use borrow.Author.Needs.{needs}
 use Rattle.cut_leaves.specs.Lending.{hullFits}
 use Rattle.cut_leaves.proofs.hull_fits.Statement.{statement}
 use Rattle.cut_leaves.proofs.hull_fits.Tie as tie

@@ -1,4 +1,3 @@
-use borrow.Author.Needs.{needs}
 use Rattle.cut_leaves.specs.Lending.{uniqueFits}
 use Rattle.cut_leaves.proofs.unique_fits.Statement.{statement}
 use Rattle.cut_leaves.proofs.unique_fits.Tie as tie

@@ -1,4 +1,3 @@
-use borrow.Author.Needs.{needs}
 use Rattle.cut_leaves.specs.Lending.{workFits}
 use Rattle.cut_leaves.proofs.work_fits.Statement.{statement}
 use Rattle.cut_leaves.proofs.work_fits.Tie as tie

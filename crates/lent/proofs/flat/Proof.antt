@@ -1,4 +1,3 @@
-use borrow.Author.Needs.{needs}
 use Rattle.lent.specs.Lent.{flat}
 use Rattle.lent.proofs.flat.Statement.{statement}
 use Rattle.lent.proofs.flat.Tie as tie

@@ -1,4 +1,3 @@
-use borrow.Author.Needs.{needs}
 use Rattle.mesh_leaf.specs.Drawing.{meshFits}
 use Rattle.mesh_leaf.proofs.mesh_fits.Statement.{statement}
 use Rattle.mesh_leaf.proofs.mesh_fits.Tie as tie
