@@ -38,7 +38,7 @@ Chained cs = ReflTransGenᴰ (Shares cs)
 not-both : {A : Type 0} {b : Bool} → b ≡ false → b ≡ true → A
 not-both e g = absurd (subst T (sym g ∙ e) tt)
 
-and-true : (a b : Bool) → a && b ≡ true → (a ≡ true) × (b ≡ true)
+pub and-true : (a b : Bool) → a && b ≡ true → (a ≡ true) × (b ≡ true)
 and-true true b e = (refl, e)
 and-true false b e = not-both refl e
 
@@ -142,9 +142,9 @@ nbrs-find [] x y h = absurd (omega arith)
 nbrs-find ((a, b) ∷ ps) x y h = ⊎-elim
     (λ u. let e = pick-both (hit a x) (hit y b) u in inl (inl (ap₂ (λ p q. (p, q)) (sym (hit-of a x (e .0))) (hit-of y b (e .1)))))
     (λ v. ⊎-elim
-        (λ u. let e = pick-both (hit b x) (hit y a) u in inr (inl (ap₂ (λ p q. (p, q)) (hit-of y a (e .1)) (sym (hit-of b x (e .0))))))
-        (λ w. ⊎-elim (λ i. inl (inr i)) (λ i. inr (inr i)) (nbrs-find ps x y w))
-        (split (pick (hit b x) (hit y a)) (occ y (nbrs ps x)) v))
+    (λ u. let e = pick-both (hit b x) (hit y a) u in inr (inl (ap₂ (λ p q. (p, q)) (hit-of y a (e .1)) (sym (hit-of b x (e .0))))))
+    (λ w. ⊎-elim (λ i. inl (inr i)) (λ i. inr (inr i)) (nbrs-find ps x y w))
+    (split (pick (hit b x) (hit y a)) (occ y (nbrs ps x)) v))
     (split (pick (hit a x) (hit y b)) (pick (hit b x) (hit y a) + occ y (nbrs ps x)) (omega (arith, occ-pair a b x y ps)))
 
 nbrs-has : (ps : List (ℕ × ℕ)) (x y : ℕ) → In (x, y) ps → y ∈ nbrs ps x
@@ -266,9 +266,9 @@ module _ (m n : ℕ) (cs : List Corner) (low : Each (Below n) cs) (fit : all (fi
   unfolding connected Joined
   chained = (
     λ e. let J = one-joined n (joinsOf (joins cs cs)) (components n (joinsOf (joins cs cs))) found (eqb-true (length (components n (joinsOf (joins cs cs)))) 1 e) in
-      (J .0, λ i j h k. reach-chain i j (J .1 i j h k)),
+        (J .0, λ i j h k. reach-chain i j (J .1 i j h k)),
     λ c. eq-eqb (length (components n (joinsOf (joins cs cs)))) 1
-      (joined-one n (joinsOf (joins cs cs)) (components n (joinsOf (joins cs cs))) found (c .0, λ i j h k. chain-reach i j (c .1 i j h k))),
+        (joined-one n (joinsOf (joins cs cs)) (components n (joinsOf (joins cs cs))) found (c .0, λ i j h k. chain-reach i j (c .1 i j h k))),
   )
 
 -- 01: "all faces connected through edges", where the corners of the faces fit
