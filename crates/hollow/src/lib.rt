@@ -102,7 +102,7 @@ pub fn reverse_faces(
 }
 
 // How many corners n faces have.
-fn corners_of(counts: &[u64], first: usize, n: usize, src: &[f64], from: usize) -> usize
+pub fn corners_of(counts: &[u64], first: usize, n: usize, src: &[f64], from: usize) -> usize
     requires { ⌜ Lies (now src) from (now counts) first n ⌝ }
     ensures { λ r. ⌜ (r ≡ corners 0 (cellAt (now (src .entry)) from (countsAt (now (counts .entry)) first n))) × (3 * r ≤ length (now (src .entry))) ⌝ }
 {
@@ -115,7 +115,8 @@ fn corners_of(counts: &[u64], first: usize, n: usize, src: &[f64], from: usize) 
     held
 }
 
-fn room_for(limit: usize, n: usize) -> Verdict
+// 12 where an answer has more corners than the room.
+pub fn room_for(limit: usize, n: usize) -> Verdict
     ensures { λ r. ⌜ r ≡ roomFor limit n ⌝ }
 {
     if limit < n {
