@@ -90,7 +90,7 @@ unfolding Spliced
 spliced-none (ok l) i n at a₀ b₀ k₀ o₀ a b k o r y h g = absurd (let u = h .0 in let z : _≡_ {A = ℕ} 0 1 = cc in omega arith)
 spliced-none (refused x) i n at a₀ b₀ k₀ o₀ a b k o r y h g = ((let u = h .0 in let w : x ≡ y = cc in ap refused w), h .1, h .2)
 
-same-more : {a₀ b₀ : List Float} {k₀ : List ℕ} {a b : List Float} {k : List ℕ} {a′ b′ : List Float} {k′ : List ℕ} → Same a₀ b₀ k₀ a b k → Same a b k a′ b′ k′ → Same a₀ b₀ k₀ a′ b′ k′
+pub same-more : {a₀ b₀ : List Float} {k₀ : List ℕ} {a b : List Float} {k : List ℕ} {a′ b′ : List Float} {k′ : List ℕ} → Same a₀ b₀ k₀ a b k → Same a b k a′ b′ k′ → Same a₀ b₀ k₀ a′ b′ k′
 same-more s u = record { lows = u .lows ∙ s .lows; highs = u .highs ∙ s .highs; places = u .places ∙ s .places }
 
 -- of c edges, i are done, with q vertices

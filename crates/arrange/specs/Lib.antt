@@ -1,0 +1,3 @@
+pub mod Arrange
+pub mod Facets
+pub mod Laws
