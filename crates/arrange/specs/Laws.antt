@@ -58,7 +58,7 @@ over : (b : Bool) (k : ℕ) (y : Refusal) → unless b 12 (ok k) ≡ refused y �
 over true k y e x = cc
 over false k y e x = absurd (let z : _≡_ {A = ℕ} 0 1 = cc in omega arith)
 
-map-snoc : (l : List (List ℕ)) (f : List ℕ) → map length (l ++ (f ∷ [])) ≡ map length l ++ (length f ∷ [])
+pub map-snoc : (l : List (List ℕ)) (f : List ℕ) → map length (l ++ (f ∷ [])) ≡ map length l ++ (length f ∷ [])
 map-snoc [] f = refl
 map-snoc (g ∷ l) f = ap (λ z. length g ∷ z) (map-snoc l f)
 

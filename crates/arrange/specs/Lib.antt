@@ -1,3 +1,4 @@
 pub mod Arrange
 pub mod Facets
 pub mod Laws
+pub mod Merged
