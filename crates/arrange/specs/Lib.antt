@@ -1,0 +1,4 @@
+pub mod Arrange
+pub mod Facets
+pub mod Laws
+pub mod Merged

@@ -1,0 +1,3 @@
+pub mod Conform
+pub mod Cycles
+pub mod Laws
