@@ -12,12 +12,12 @@ use Rattle.groups.specs.Groups.{joined}
 use Rattle.cavities.specs.Outer.{outerOf}
 use Rattle.listing.specs.Appended.{appended, append-more, length-appended, slice-snoc, gaps, length-gaps}
 
-joined-both : (l m : List (List ℕ)) → joined (l ++ m) ≡ joined l ++ joined m
+pub joined-both : (l m : List (List ℕ)) → joined (l ++ m) ≡ joined l ++ joined m
 unfolding joined
 joined-both [] m = refl
 joined-both (g ∷ l) m = ap (λ r. g ++ r) (joined-both l m) ∙ sym (append-assoc g (joined l) (joined m))
 
-joined-one : (g : List ℕ) → joined (g ∷ []) ≡ g
+pub joined-one : (g : List ℕ) → joined (g ∷ []) ≡ g
 unfolding joined
 joined-one g = append-nil g
 
@@ -84,9 +84,6 @@ module _ (d c : List ℕ) (g o : ℕ) (s : Starts d c g) (h : o < g) where
   pub part-one : getD c o 0 ≤ getD c (o + 1) 0
   part-one = s .up o h
 
-  pub part-two : 0 ≤ getD c o 0
-  part-two = omega arith
-
   pub part-three : getD c (o + 1) 0 ≤ getD c g 0
   part-three = starts-le d c g s (o + 1) g (omega arith) (omega arith)
 
@@ -98,9 +95,6 @@ module _ (d c : List ℕ) (g o : ℕ) (s : Starts d c g) (h : o < g) where
       last (suc n) s l = let z : n + 1 ≡ suc n = omega arith in subst (λ k. getD c k 0 ≤ length d) z (s .inn n (omega arith))
 
   module _ (out : List ℕ) (na : ℕ) (room : na + getD c g 0 ≤ length out) where
-    pub room-one : na + (getD c (o + 1) 0 - getD c o 0) ≤ length out
-    room-one = omega (arith, part-three)
-
     s1 : List ℕ
     s1 = slice (getD c o 0) (getD c (o + 1) 0) d
 
@@ -134,10 +128,6 @@ module _ (d c : List ℕ) (g o : ℕ) (s : Starts d c g) (h : o < g) where
         r ∙ ap (λ l. appended l (ns + (o + 1)) t) two
         ∙ append-more out ns (s1 ++ s2) (omega (arith, length-append s1 s2, length-gaps c o 1, length-gaps c 0 o)) (ns + (o + 1)) t (omega (arith, length-append s1 s2, length-gaps c o 1, length-gaps c 0 o))
         ∙ ap (appended out ns) (append-assoc s1 s2 t ∙ sym (sizes-are d c g s o h))
-
--- fewer rows of the same
-pub fewer : (d c : List ℕ) (g n : ℕ) → n ≤ g → Starts d c g → Starts d c n
-fewer d c g n h s = record { first = s .first; up = λ k l. s .up k (omega arith); inn = λ k l. s .inn k (omega arith); many = omega (arith, s .many) }
 
 pub row-up : (d c : List ℕ) (g k : ℕ) → Starts d c g → k < g → getD c k 0 ≤ getD c (k + 1) 0
 row-up d c g k s h = s .up k h
