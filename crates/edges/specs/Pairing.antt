@@ -28,6 +28,7 @@ use Rattle.edges.specs.Laid.{laidRuns, laid-at}
 pub record Edged (rs : List F.Run) (d : List ℕ) (m : Paired) : Type 0 where
   pub told : heard (m .verdict) tt ≡ F.checkEdges rs
   pub paired : m .verdict ≡ Fine → take (2 * m .pairs) d ≡ endsOf (F.edges rs)
+  pub half : m .verdict ≡ Fine → 2 * m .pairs ≤ length d
 
 never : {A : Type 0} (r : Refusal) → Refused r ≡ Fine → A
 never r e = let z : _≡_ {A = ℕ} 0 1 = cc in absurd (omega arith)
@@ -72,7 +73,7 @@ module _ (rs : List F.Run) (ks : List (List ℕ)) where
     part-odd d′ (suc (suc (suc m))) s e = (refl, judged-stop (F.judgeEdge rs) (faceOf rs) ks d p b w (refusalOf 20) _ h (more-users ks p (s .e) (s .run) (s .many (omega arith))) refl)
 
   pub standing-end : (d : List ℕ) (m : Paired) → ks ≡ F.edgeKeys rs → length (order ks) ≤ m .at → Standing d (m .verdict) (m .at) (m .pairs) → Edged rs d m
-  standing-end d m q h s = record { told = told (m .verdict) s; paired = λ e. paired (m .verdict) s e }
+  standing-end d m q h s = record { told = told (m .verdict) s; paired = λ e. paired (m .verdict) s e; half = λ e. half (m .verdict) s e }
     where
       whole : walk (judge (F.judgeEdge rs) (faceOf rs) ks) tt (order ks) ≡ F.checkEdges rs
       whole = unfold F.checkEdges in ap (λ ks. walk (λ _ i. F.judgeEdge rs (users ks i)) tt (order ks)) q
@@ -84,6 +85,10 @@ module _ (rs : List F.Run) (ks : List (List ℕ)) where
       paired : (v : Verdict) → Standing d v (m .at) (m .pairs) → v ≡ Fine → take (2 * m .pairs) d ≡ endsOf (F.edges rs)
       paired Fine w e = unfold Standing F.edges in (judged-pairs (F.judgeEdge rs) (faceOf rs) ks d (m .at) (m .pairs) w h ∙ ap (λ ks. endsOf (map (λ p. (faceOf rs (p .0), faceOf rs (p .1))) (pairs ks))) q)
       paired (Refused r) w e = never r e
+
+      half : (v : Verdict) → Standing d v (m .at) (m .pairs) → v ≡ Fine → 2 * m .pairs ≤ length d
+      half Fine w e = unfold Standing in omega (arith, w .half, w .upto, w .room)
+      half (Refused r) w e = never r e
 
 -- ---- in the words of the code
 

@@ -24,6 +24,8 @@ pub record Met-all (fs : List Facet) (x d : List ℕ) (m : Met) : Type 0 where
   pub told : heard (m .verdict) tt ≡ checkFacets fs
   pub listed : m .verdict ≡ Fine → take (m .listed) x ≡ exterior fs
   pub paired : m .verdict ≡ Fine → take (2 * m .pairs) d ≡ endsOf (interfaces fs)
+  pub few : m .verdict ≡ Fine → m .listed ≤ length x
+  pub half : m .verdict ≡ Fine → 2 * m .pairs ≤ length d
 
 never : {A : Type 0} (r : Refusal) → Refused r ≡ Fine → A
 never r e = let z : _≡_ {A = ℕ} 0 1 = cc in absurd (omega arith)
@@ -89,7 +91,7 @@ module _ (fs : List Facet) (ks : List (List ℕ)) where
 
   -- the end of the walk
   pub standing-end : (x d : List ℕ) (m : Met) → ks ≡ keys fs → length (order ks) ≤ m .at → Standing x d (m .verdict) (m .at) (m .listed) (m .pairs) → Met-all fs x d m
-  standing-end x d m q h s = record { told = told (m .verdict) s; listed = λ e. listed (m .verdict) s e; paired = λ e. paired (m .verdict) s e }
+  standing-end x d m q h s = record { told = told (m .verdict) s; listed = λ e. listed (m .verdict) s e; paired = λ e. paired (m .verdict) s e; few = λ e. few (m .verdict) s e; half = λ e. half (m .verdict) s e }
     where
       whole : walk (judge (judgeUsers fs) (cellOf fs) ks) tt (order ks) ≡ checkFacets fs
       whole = unfold checkFacets in ap (λ ks. walk (λ _ i. judgeUsers fs (users ks i)) tt (order ks)) q
@@ -108,3 +110,11 @@ module _ (fs : List Facet) (ks : List (List ℕ)) where
       paired : (v : Verdict) → Standing x d v (m .at) (m .listed) (m .pairs) → v ≡ Fine → take (2 * m .pairs) d ≡ endsOf (interfaces fs)
       paired Fine w e = unfold Standing in (judged-pairs (judgeUsers fs) (cellOf fs) ks d (m .at) (m .pairs) (w .judged) h ∙ ap (λ ks. named (judgeUsers fs) (cellOf fs) ks (pairs ks)) q)
       paired (Refused r) w e = never r e
+
+      few : (v : Verdict) → Standing x d v (m .at) (m .listed) (m .pairs) → v ≡ Fine → m .listed ≤ length x
+      few Fine w e = unfold Standing in omega (arith, w .few, w .judged .upto, w .room)
+      few (Refused r) w e = never r e
+
+      half : (v : Verdict) → Standing x d v (m .at) (m .listed) (m .pairs) → v ≡ Fine → 2 * m .pairs ≤ length d
+      half Fine w e = unfold Standing in omega (arith, w .judged .half, w .judged .upto, w .judged .room)
+      half (Refused r) w e = never r e

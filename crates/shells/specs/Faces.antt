@@ -107,6 +107,9 @@ module _ (owners x g f₀ : List ℕ) where
       f′ ≡ stored b f m (getD x q 0) → m′ ≡ more b m → Keeping owners x g f₀ f′ m′ (q + 1)
   keeping-step f f′ m m′ q y b room h w o s e n = keeping-turn f f′ m m′ q b room h w (subst (λ y. Told g y b) o s) e n
 
+  pub keeping-few : (f : List ℕ) (m q : ℕ) → Keeping owners x g f₀ f m q → m ≤ length x
+  keeping-few f m q w = omega (arith, w .few, w .upto)
+
   pub keeping-end : (f : List ℕ) (m q : ℕ) → length x ≤ q → Keeping owners x g f₀ f m q → take m f ≡ keep (λ i. occ (getD owners i 0) g) x
   unfolding keep
   keeping-end f m q h w = sym (append-nil (take m f)) ∙ ap (λ l. take m f ++ l) (sym (ap (keep (λ i. occ (getD owners i 0) g)) (drop-of-length-le x h))) ∙ w .left

@@ -97,7 +97,7 @@ sum-joined f [] = refl
 sum-joined f (g ∷ gs) = sum-append f g (joined gs) ∙ ap (λ n. sum f g + n) (sum-joined f gs)
 
 module _ (ends : List ℕ) (n : ℕ) (w : Within ends n) where
-  found : Components n (joinsOf ends) (components n (joinsOf ends))
+  pub found : Components n (joinsOf ends) (components n (joinsOf ends))
   unfolding joinsOf
   found = components-found n (joinsOf ends) (graph-of n (pairsOf (length ends / 2) ends) (pairs-within n (length ends / 2) ends (omega arith) w))
 

@@ -46,7 +46,8 @@ fn keep_face(faces: &mut [u64], m: usize, i: u64, own: bool) -> usize
 // The facets of the body of some cells, in the order of their keys. Returns how many.
 pub fn body_faces(owners: &[u64], f: usize, ext: &[u64], cells: &[u64], faces: &mut [u64]) -> usize
     requires { ⌜ Owned (now owners) f (now ext) × (length (now ext) ≤ length (now faces)) ⌝ }
-    ensures { λ r. ⌜ take r (now (faces .exit)) ≡ keep (λ i. occ (getD (now (owners .entry)) i 0) (now (cells .entry))) (now (ext .entry)) ⌝ }
+    ensures few { λ r. ⌜ r ≤ length (now (ext .entry)) ⌝ }
+    ensures faces { λ r. ⌜ take r (now (faces .exit)) ≡ keep (λ i. occ (getD (now (owners .entry)) i 0) (now (cells .entry))) (now (ext .entry)) ⌝ }
 {
     let mut m = 0;
     let mut q = 0;

@@ -1,6 +1,6 @@
 use Prim.Native.Nat.{_-_}
 use lib.ListN.{length}
-use Rattle.shells.specs.Faces.{Keeping, owned-at, keeping-start, keeping-room, keeping-step, keeping-end}
+use Rattle.shells.specs.Faces.{Keeping, owned-at, keeping-start, keeping-room, keeping-step, keeping-few, keeping-end}
 use borrow.Author.Needs.{needs}
 use native.Mathlib.Omega.{arith}
 use Rattle.shells.proofs.body_faces.Statement.{statement}
@@ -43,7 +43,7 @@ same-length : tie.Need-same-length Inv-loop μ-loop
 same-length c = search needs
 
 returns : tie.Need-returns Inv-loop μ-loop
-returns c = keeping-end _ _ _ _ _ _ _ (c .loop-test .left) (c .before .loop .inv)
+returns c = (keeping-few _ _ _ _ _ _ _ (c .before .loop .inv), keeping-end _ _ _ _ _ _ _ (c .loop-test .left) (c .before .loop .inv))
 
 pub body-faces-spec : {M : Type 1} → statement M
 body-faces-spec =
