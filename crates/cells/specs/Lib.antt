@@ -1,0 +1,4 @@
+pub mod Cells
+pub mod Rests
+pub mod Laws
+pub mod Theorem
