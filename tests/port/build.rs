@@ -4,7 +4,13 @@ use std::{env, path::Path};
 fn main() {
     let manifest = env::var("CARGO_MANIFEST_DIR").expect("cargo gives the manifest's directory");
     let native = Path::new(&manifest).join("../../target/native");
-    for name in ["leaves", "vector_leaves", "cut_leaves", "mesh_leaf"] {
+    for name in [
+        "leaves",
+        "vector_leaves",
+        "cut_leaves",
+        "mesh_leaf",
+        "solid_leaves",
+    ] {
         let archive = native.join(format!("lib{name}.a"));
         assert!(
             archive.exists(),

@@ -6,6 +6,7 @@ mod cutting;
 mod mesh;
 mod numbers;
 mod report;
+mod solids;
 mod vectors;
 
 use report::Report;
@@ -40,11 +41,12 @@ impl Scale {
 type Layer = fn(&mut Report, u64, Scale);
 
 /// Each layer's name, what it asks, and what is added to the seed.
-const LAYERS: [(&str, Layer, u64); 4] = [
+const LAYERS: [(&str, Layer, u64); 5] = [
     ("numbers", numbers::compare, 0),
     ("vectors", vectors::compare, 100),
     ("cutting", cutting::compare, 200),
     ("mesh", mesh::compare, 300),
+    ("solids", solids::compare, 400),
 ];
 
 fn main() {

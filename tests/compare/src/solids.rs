@@ -1,20 +1,27 @@
 //! The check of a cell's bytes: the number of the reader and of the solid check, with and without the counts.
-use crate::report::Report;
+use crate::report::{Report, Told};
+use crate::Scale;
 use gen::{damage, jobs, leaves, solid, Random};
 use oracle::{leaf, read_cell, CellFile, Solid, Tolerances};
 use port::solids::Desk;
+
+const CALL: &str = "check of a cell";
 
 /// Damaged solids of any family.
 const MANY: usize = 100_000;
 
 type Question = (Vec<u8>, bool);
 
-fn theirs((bytes, counted): &Question) -> u64 {
+fn theirs((bytes, counted): &Question) -> Told<()> {
     let checked = read_cell(bytes).and_then(|c| leaf::check(&c.tolerances, &c.solid, *counted));
-    match checked {
-        Ok(_) => 0,
-        Err(number) => number.into(),
-    }
+    Some(checked.map(|_| ()).map_err(u64::from))
+}
+
+fn ours(desk: &mut Desk, (bytes, counted): &Question) -> Told<()> {
+    Some(match desk.check_cell(bytes, *counted) {
+        0 => Ok(()),
+        number => Err(number),
+    })
 }
 
 fn file(tolerances: Tolerances, solid: Solid) -> Vec<u8> {
@@ -41,40 +48,35 @@ fn other_bytes(bytes: &[u8]) -> Vec<Vec<u8>> {
     (0..bytes.len()).flat_map(at).collect()
 }
 
-pub fn compare(report: &mut Report, seed: u64, scale: usize) {
+pub fn compare(report: &mut Report, seed: u64, scale: Scale) {
     let mut random = Random::new(seed);
     let mut desk = Desk::default();
     let mut ask = |name: &str, questions: Vec<Vec<u8>>| {
         let questions = questions.into_iter().flat_map(both);
-        report.ask(name, questions, |q| desk.check_cell(&q.0, q.1), theirs);
+        report.ask_call([CALL, name], questions, |q| ours(&mut desk, q), theirs);
     };
-    let whole: Vec<_> = (0..10 * scale)
+    let whole: Vec<_> = (0..scale.of(10))
         .map(|_| usual(jobs::solid(&mut random, 20)))
         .collect();
     let short = whole.iter().flat_map(|b| damage::cut_short(b));
-    ask("cell cut short", short.map(<[u8]>::to_vec).collect());
+    ask("cut short", short.map(<[u8]>::to_vec).collect());
     let long = whole.iter().flat_map(|b| damage::too_long(b));
-    ask("cell too long", long.collect());
-    ask(
-        "cell byte changed",
-        other_bytes(&usual(solid::tetrahedron(1.0))),
-    );
-    ask(
-        "cell counts",
-        damage::counts().into_iter().map(usual).collect(),
-    );
-    let close = (0..MANY / 20 * scale).map(|_| leaves::close_solid(&mut random));
-    ask("cell close", close.map(|(t, s)| file(t, s)).collect());
-    let damaged = (0..MANY * scale).map(|_| {
+    ask("too long", long.collect());
+    ask("byte changed", other_bytes(&usual(solid::tetrahedron(1.0))));
+    ask("counts", damage::counts().into_iter().map(usual).collect());
+    let close = (0..scale.of(MANY / 20)).map(|_| leaves::close_solid(&mut random));
+    ask("close", close.map(|(t, s)| file(t, s)).collect());
+    let damaged = (0..scale.of(MANY)).map(|_| {
         let t = jobs::tolerances(&mut random);
         let solid = jobs::solid(&mut random, 20);
         let damaged = damage::any_solid(&mut random, &solid, &t);
         file(t, damaged)
     });
-    ask("cell damaged", damaged.collect());
-    let sound = (0..MANY / 10 * scale).map(|_| {
+    ask("damaged", damaged.collect());
+    let sound = (0..scale.of(MANY / 10)).map(|_| {
         let t = jobs::tolerances(&mut random);
         file(t, jobs::solid(&mut random, 64))
     });
-    ask("cell sound", sound.collect());
+    ask("sound", sound.collect());
+    report.reached(CALL, &[0, 1, 2, 3, 4, 5, 6, 7]);
 }

@@ -3,4 +3,5 @@ pub mod cutting;
 pub mod guard;
 pub mod leaves;
 pub mod mesh;
+pub mod solids;
 pub mod vectors;
