@@ -2,6 +2,7 @@
 mod cutting;
 mod numbers;
 mod same;
+mod solids;
 mod timed;
 
 fn main() {
@@ -12,4 +13,5 @@ fn main() {
     numbers::bench();
     cutting::clips();
     cutting::meshes();
+    solids::checks();
 }
