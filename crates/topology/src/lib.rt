@@ -197,9 +197,9 @@ fn is_one(
     let found = groups::components(
         &ends[..e],
         &mut head[..n],
-        next,
+        &mut next[..e],
         &mut seen[..n],
-        work,
+        &mut work[..n],
         nodes,
         cuts,
     );

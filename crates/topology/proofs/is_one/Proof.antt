@@ -23,14 +23,28 @@ slice-relend-prefix-components-2 c = search needs
 slice-aggregate-components-3 : tie.Need-slice-aggregate-components-3
 slice-aggregate-components-3 c = search (needs, length-take-le)
 
+slice-relend-prefix-components-3 : tie.Need-slice-relend-prefix-components-3
+slice-relend-prefix-components-3 c = search needs
+
+slice-aggregate-components-4 : tie.Need-slice-aggregate-components-4
+slice-aggregate-components-4 c = search (needs, length-take-le)
+
+slice-relend-prefix-components-4 : tie.Need-slice-relend-prefix-components-4
+slice-relend-prefix-components-4 c = search needs
+
+slice-aggregate-components-5 : tie.Need-slice-aggregate-components-5
+slice-aggregate-components-5 c = search (needs, length-take-le)
+
 components-requires : tie.Need-components-requires
 components-requires c κs =
     let S = c .before .before .before .before .before .before .before .before .before .before .before .before .before .before in
     let A = S .args in
     let e = length-take-le (A .e) (A .ends .now) (S .pre .0 .0) in
     let h = length-take-le (A .n) (A .head .now) (S .pre .1 .0 .0) in
+    let x = length-take-le (A .e) (A .next .now) (S .pre .1 .0 .1) in
     let s = length-take-le (A .n) (A .seen .now) (S .pre .1 .0 .2) in
-    ((subst (Within (take (A .e) (A .ends .now))) (sym s) (S .pre .0 .1), omega (arith, h, s), omega (arith, e, S .pre .1 .0 .1)), (omega (arith, s, S .pre .1 .1 .2), omega (arith, s, S .pre .1 .1 .0), omega (arith, s, S .pre .1 .1 .1)))
+    let w = length-take-le (A .n) (A .work .now) (S .pre .1 .1 .0) in
+    ((subst (Within (take (A .e) (A .ends .now))) (sym s) (S .pre .0 .1), omega (arith, h, s), omega (arith, e, x)), (omega (arith, s, S .pre .1 .1 .2), omega (arith, s, w), omega (arith, s, S .pre .1 .1 .1)))
 
 same-length : tie.Need-same-length
 same-length c = search needs
@@ -65,6 +79,10 @@ is-one-spec =
     slice-aggregate-components-2
     slice-relend-prefix-components-2
     slice-aggregate-components-3
+    slice-relend-prefix-components-3
+    slice-aggregate-components-4
+    slice-relend-prefix-components-4
+    slice-aggregate-components-5
     components-requires
     same-length
     same-length-2
