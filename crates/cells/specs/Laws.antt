@@ -1,7 +1,7 @@
 -- Laws of the remainder and of the pieces, in the words of the code.
 use mathlib.Core.Path.{_≡_, refl, sym, ap, _∙_, subst}
-use mathlib.Core.Bool.{Bool, true, false}
-use mathlib.Core.List.{List, [], _∷_, _++_}
+use mathlib.Core.Bool.{true, false}
+use mathlib.Core.List.{List, []}
 use Prim.Native.Nat.{ℕ, _+_, _*_, _≤_, _<_}
 use native.Mathlib.Omega.{arith}
 use lib.ListN.{length, take, drop, getD}
@@ -16,7 +16,7 @@ use Rattle.space.specs.declared.Planed.{Planed}
 use Rattle.space.specs.declared.Planed.the-variants as P
 use Rattle.space.specs.declared.Precision.{Precision}
 use Rattle.space.specs.Frames.{planed}
-use Rattle.space.specs.Shapes.{Face, Cell, Part, nothing, part, corners}
+use Rattle.space.specs.Shapes.{Cell, Part, nothing, part}
 use Rattle.side.specs.Sides.{oppositeOf}
 use Rattle.polygon.specs.Members.{never-ok}
 use Rattle.room.specs.Rooms.{planeAt, cellFloats, cellCounts, faceAt, cellAt, countsAt, Within}
@@ -26,10 +26,10 @@ use Rattle.cell.specs.Laws.{Ahead, ahead-next, ahead-face, ahead-done}
 use Rattle.clip.specs.declared.Clipped.{Clipped}
 use Rattle.clip.specs.declared.Clipped.the-variants as C
 use Rattle.clip.specs.Cuts.{clip}
-use Rattle.clip.specs.Clips.{Given, Wide, told, Sized, Clips}
+use Rattle.clip.specs.Clips.{Wide, told, Sized, Clips}
 use Rattle.clip.specs.Bounds.{part-wide, part-some, part-fit}
 use Rattle.stack.specs.declared.Stack.{Stack}
-use Rattle.stack.specs.Stacks.{cellsAt, addCell, addPart, addCut, stackOf, listAt, Listed, Holds, Places, Work}
+use Rattle.stack.specs.Stacks.{cellsAt, addCell, addPart, addCut, stackOf, listAt, Listed}
 use Rattle.stack.specs.Laws.{listed-is, holds, listed-none, listed-refused}
 use Rattle.cells.specs.declared.Operation.{Operation}
 use Rattle.cells.specs.declared.Operation.the-variants.{Intersection, Difference, Union}
@@ -294,17 +294,6 @@ end-refused v w l e r q x er = er ∙ ap (λ y. ended y (Refused e) l) (sym q) �
 
 pub place-on : (room : ℕ) (d : List Float) (n : List ℕ) (d′ : List Float) (n′ : List ℕ) → Place room d n → length d′ ≡ length d → length n′ ≡ length n → Place room d′ n′
 place-on room d n d′ n′ p a b = record { place = omega (arith, p .place); slots = omega (arith, p .slots) }
-
-pub places-on : (room : ℕ) (d : List Float) (n z : List ℕ) (d′ : List Float) (n′ z′ : List ℕ) → Places room d n z → length d′ ≡ length d → length n′ ≡ length n → length z′ ≡ length z → Places room d′ n′ z′
-places-on room d n z d′ n′ z′ p a b c = record { place = omega (arith, p .place); slots = omega (arith, p .slots); seats = omega (arith, p .seats) }
-
-pub work-on : (f p a : List Float) (o n : List ℕ) (f′ p′ a′ : List Float) (o′ n′ : List ℕ) → Work f p a o n →
-    length f′ ≡ length f → length p′ ≡ length p → length a′ ≡ length a → length o′ ≡ length o → length n′ ≡ length n → Work f′ p′ a′ o′ n′
-work-on f p a o n f′ p′ a′ o′ n′ w ef ep ea eo en = record {
-  face-fits = omega (arith, w .face-fits);
-  cap-fits = omega (arith, w .cap-fits);
-  hulls = record { flat-fits = omega (arith, w .hulls .flat-fits); order-fits = omega (arith, w .hulls .order-fits); chain-fits = omega (arith, w .hulls .chain-fits) };
-}
 
 -- the slices of the remainder's cuts are as long as they were
 pub record Nine (r : List Float) (h : List ℕ) (s : List Float) (l : List ℕ) (f p a : List Float) (o n : List ℕ) (r₀ : List Float) (h₀ : List ℕ) (s₀ : List Float) (l₀ : List ℕ) (f₀ p₀ a₀ : List Float) (o₀ n₀ : List ℕ) : Type 0 where

@@ -8,8 +8,8 @@ use lib.Seq.{sets}
 use lib.Ieee.{Float}
 use Rattle.refusal.specs.declared.Verdict.{Verdict}
 use Rattle.refusal.specs.declared.Verdict.the-variants.{Fine, Refused}
-use Rattle.refusal.specs.Outcome.{Outcome, ok, refused, then, heard}
-use Rattle.space.specs.Shapes.{Cell, Part, nothing, part}
+use Rattle.refusal.specs.Outcome.{Outcome, refused, then, heard}
+use Rattle.space.specs.Shapes.{Part, nothing, part}
 use Rattle.room.specs.Rooms.{cellAt, countsAt}
 use Rattle.clip.specs.declared.Clipped.{Clipped}
 use Rattle.clip.specs.declared.Clipped.the-variants as C

@@ -1,11 +1,11 @@
 -- What difference and intersection promise, of the definition that the code is proved equal to.
 use mathlib.Core.Path.{_≡_, refl, sym, ap, _∙_, subst}
-use mathlib.Core.Bool.{Bool, true, false}
+use mathlib.Core.Bool.{false}
 use mathlib.Core.List.{List, [], _∷_, _++_, append-assoc}
 use Prim.Native.Nat.{ℕ}
 use native.Mathlib.Omega.{arith}
 use lib.Dec.{ltb}
-use Rattle.refusal.specs.Outcome.{Outcome, ok, refused, then, unless, walk, numberOf}
+use Rattle.refusal.specs.Outcome.{Outcome, ok, refused, then, walk, numberOf}
 use Rattle.space.specs.declared.Plane.{Plane}
 use Rattle.space.specs.declared.Precision.{Precision}
 use Rattle.space.specs.Shapes.{Face, Cell, Part, nothing, part, corners, allCorners}

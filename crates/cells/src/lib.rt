@@ -2,7 +2,6 @@
 // `rest` with `held`; a cut of it is made in a second room, `spare` with `slots`, and copied back. The list lies in `dst`,
 // `counts` and `sizes`. All of these are work memory but for the list that an answer tells.
 use clip::Clipped;
-use refusal::Refusal;
 use refusal::Verdict;
 use space::Plane;
 use space::Planed;

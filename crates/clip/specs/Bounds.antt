@@ -3,20 +3,20 @@
 use mathlib.Core.Path.{_≡_, refl, sym, ap, _∙_, subst}
 use mathlib.Core.Bool.{Bool, true, false}
 use mathlib.Core.Logic.{⊎-elim}
-use mathlib.Core.List.{List, [], _∷_, _++_}
-use Prim.Native.Nat.{ℕ, suc, _+_, _≤_, _<_}
+use mathlib.Core.List.{List, [], _∷_}
+use Prim.Native.Nat.{ℕ, suc, _≤_}
 use native.Mathlib.Omega.{arith}
 use lib.ListN.{length, take, length-append, set}
 use lib.Seq.{sets, take-set-le}
 use lib.Dec.{ltb}
 use lib.Ieee.{Float}
 use borrow.Author.Tests.{ltb-false}
-use Rattle.refusal.specs.Outcome.{Outcome, ok, refused, then, unless, walk}
+use Rattle.refusal.specs.Outcome.{Outcome, ok, walk}
 use Rattle.space.specs.declared.Plane.{Plane}
 use Rattle.space.specs.declared.Precision.{Precision}
 use Rattle.space.specs.Shapes.{Face, Cell, Part, nothing, part, corners}
 use Rattle.polygon.specs.Unique.{unique}
-use Rattle.polygon.specs.Members.{All, same-ok, then-ok}
+use Rattle.polygon.specs.Members.{same-ok, then-ok}
 use Rattle.hull.specs.Hull.{capOf}
 use Rattle.hull.specs.Laws.{cap-hull}
 use Rattle.hull.specs.Members.{hull-least}

@@ -2,18 +2,16 @@
 use mathlib.Core.Path.{_≡_, refl, sym, ap, _∙_, subst}
 use mathlib.Core.Bool.{Bool, true, false, _||_}
 use mathlib.Core.List.{List, [], _∷_, _++_, append-assoc, append-nil}
-use Prim.Native.Nat.{ℕ, zero, suc, _+_, _-_, _*_, _≤_, _<_}
+use Prim.Native.Nat.{ℕ, suc, _+_, _*_, _≤_, _<_}
 use native.Mathlib.Omega.{arith}
 use native.Mathlib.Numerals.{add-one}
 use lib.ListN.{length, take, drop, set, getD, length-append, length-drop, length-set}
 use lib.Seq.{sets, sets-eq, take-at, drop-at, take-suc, length-take-le}
-use lib.Dec.{ltb, leb}
+use lib.Dec.{ltb}
 use lib.Ieee.{Float}
 use borrow.Author.Tests.{ltb-true, ltb-false, lt-ltb, le-ltb, lt-leb}
 use Rattle.refusal.specs.declared.Refusal.{Refusal}
-use Rattle.refusal.specs.declared.Verdict.{Verdict}
-use Rattle.refusal.specs.declared.Verdict.the-variants.{Fine, Refused}
-use Rattle.refusal.specs.Outcome.{Outcome, ok, refused, refusalOf, then, unless, walk, heard}
+use Rattle.refusal.specs.Outcome.{Outcome, ok, refused, then, unless, walk, heard}
 use Rattle.space.specs.Shapes.{Face, Cell, corners, allCorners}
 use Rattle.polygon.specs.Members.{All, same-ok, never-ok}
 use Rattle.room.specs.Rooms.{cellFloats, cellCounts, cellAt, countsAt}
@@ -21,7 +19,7 @@ use Rattle.room.specs.Laws.{sets-append, corners-cons, corners-snoc, corners-no
 use Rattle.cell.specs.Cells.{isFull, addFace, leftCell}
 use Rattle.clip.specs.Clips.{Wide}
 use Rattle.stack.specs.declared.Stack.{Stack}
-use Rattle.stack.specs.Stacks.{cellsFloats, cellsCounts, cellsSizes, behind, cellsAt, addCell, stackOf, listAt, Front, Sound, Lies, Listed, Holds, Places}
+use Rattle.stack.specs.Stacks.{cellsFloats, cellsCounts, cellsSizes, behind, cellsAt, stackOf, listAt, Front, Sound, Lies, Listed, Holds, Places, Work}
 
 -- ---- lengths
 
@@ -279,3 +277,16 @@ copied-step d₀ s n d i v h k c =
 
 pub copied-end : {A : Type 0} (d₀ s : List A) (n : ℕ) (d : List A) (i : ℕ) → n ≤ i → Copied d₀ s n d i → d ≡ sets d₀ 0 (take n s)
 copied-end d₀ s n d i h c = let e : i ≡ n = omega (arith, c .upto) in c .is ∙ ap (λ k. sets d₀ 0 (take k s)) e
+
+-- ---- slices that are as long as others serve as well
+
+pub places-on : (room : ℕ) (d : List Float) (n z : List ℕ) (d′ : List Float) (n′ z′ : List ℕ) → Places room d n z → length d′ ≡ length d → length n′ ≡ length n → length z′ ≡ length z → Places room d′ n′ z′
+places-on room d n z d′ n′ z′ p a b c = record { place = omega (arith, p .place); slots = omega (arith, p .slots); seats = omega (arith, p .seats) }
+
+pub work-on : (f p a : List Float) (o n : List ℕ) (f′ p′ a′ : List Float) (o′ n′ : List ℕ) → Work f p a o n →
+    length f′ ≡ length f → length p′ ≡ length p → length a′ ≡ length a → length o′ ≡ length o → length n′ ≡ length n → Work f′ p′ a′ o′ n′
+work-on f p a o n f′ p′ a′ o′ n′ w ef ep ea eo en = record {
+  face-fits = omega (arith, w .face-fits);
+  cap-fits = omega (arith, w .cap-fits);
+  hulls = record { flat-fits = omega (arith, w .hulls .flat-fits); order-fits = omega (arith, w .hulls .order-fits); chain-fits = omega (arith, w .hulls .chain-fits) };
+}

@@ -1,5 +1,4 @@
 use Rattle.cells.specs.Laws.{begun-fine, begun-refused}
-use native.Mathlib.Omega.{arith}
 use borrow.Author.Needs.{needs}
 use Rattle.cells.proofs.begun.Statement.{statement}
 use Rattle.cells.proofs.begun.Tie as tie

@@ -1,6 +1,5 @@
 use borrow.Author.Tests.{not-true, not-false}
 use Rattle.cells.specs.Laws.{carves-nothing, carves-cell, carves-refused}
-use native.Mathlib.Omega.{arith}
 use borrow.Author.Needs.{needs}
 use Rattle.cells.proofs.carve.Statement.{statement}
 use Rattle.cells.proofs.carve.Tie as tie

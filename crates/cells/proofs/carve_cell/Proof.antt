@@ -1,7 +1,6 @@
 use mathlib.Core.Path.{refl, _∙_}
-use Rattle.cells.specs.Laws.{carved, work-on}
-use native.Mathlib.Omega.{arith}
-use borrow.Author.Needs.{needs}
+use Rattle.stack.specs.Laws.{work-on}
+use Rattle.cells.specs.Laws.{carved}
 use Rattle.cells.proofs.carve_cell.Statement.{statement}
 use Rattle.cells.proofs.carve_cell.Tie as tie
 

@@ -3,7 +3,8 @@ use Prim.Native.Nat.{ℕ, _+_, _-_, _*_, _≤_}
 use lib.ListN.{length, getD}
 use Rattle.room.specs.Rooms.{cellAt, countsAt}
 use Rattle.cell.specs.Laws.{ahead-inside}
-use Rattle.cells.specs.Laws.{Walking, walking-start, walking-step, walking-end, Nine, Three, place-on, places-on, work-on}
+use Rattle.stack.specs.Laws.{places-on, work-on}
+use Rattle.cells.specs.Laws.{Walking, walking-start, walking-step, walking-end, Nine, Three, place-on}
 use borrow.Author.Needs.{needs}
 use native.Mathlib.Omega.{arith}
 use Rattle.cells.proofs.difference.Statement.{statement}

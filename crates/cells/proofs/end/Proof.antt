@@ -1,5 +1,4 @@
 use Rattle.cells.specs.Laws.{end-stays, end-fine, end-refused}
-use native.Mathlib.Omega.{arith}
 use borrow.Author.Needs.{needs}
 use Rattle.cells.proofs.end.Statement.{statement}
 use Rattle.cells.proofs.end.Tie as tie

@@ -3,7 +3,8 @@ use Prim.Native.Nat.{ℕ, _+_, _-_, _*_, _≤_}
 use lib.ListN.{length, getD}
 use Rattle.room.specs.Rooms.{cellAt, countsAt}
 use Rattle.cell.specs.Laws.{ahead-inside}
-use Rattle.cells.specs.Laws.{Meeting, meeting-start, meeting-step, meeting-end, Nine, place-on, work-on}
+use Rattle.stack.specs.Laws.{work-on}
+use Rattle.cells.specs.Laws.{Meeting, meeting-start, meeting-step, meeting-end, Nine, place-on}
 use borrow.Author.Needs.{needs}
 use native.Mathlib.Omega.{arith}
 use Rattle.cells.proofs.intersection.Statement.{statement}

@@ -1,7 +1,6 @@
 use borrow.Author.Tests.{not-true, not-false}
 use Rattle.stack.specs.Laws.{holds}
 use Rattle.cells.specs.Laws.{settled-nothing, settled-part, listed-begun}
-use native.Mathlib.Omega.{arith}
 use borrow.Author.Needs.{needs}
 use Rattle.cells.proofs.settle.Statement.{statement}
 use Rattle.cells.proofs.settle.Tie as tie

@@ -1,6 +1,6 @@
 use mathlib.Core.Path.{_∙_}
-use Rattle.stack.specs.Laws.{holds}
-use Rattle.cells.specs.Laws.{united, places-on}
+use Rattle.stack.specs.Laws.{holds, places-on}
+use Rattle.cells.specs.Laws.{united}
 use Rattle.cells.proofs.unite.Statement.{statement}
 use Rattle.cells.proofs.unite.Tie as tie
 

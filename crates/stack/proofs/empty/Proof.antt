@@ -1,4 +1,3 @@
-use borrow.Author.Needs.{needs}
 use Rattle.space.specs.Shapes.{allCorners}
 use Rattle.stack.specs.Stacks.{cellsCounts, stackOf}
 use Rattle.stack.proofs.empty.Statement.{statement}

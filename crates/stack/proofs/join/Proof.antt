@@ -1,5 +1,4 @@
 use Rattle.stack.specs.Steps.{join-nothing, join-part, join-refused, broad-part}
-use native.Mathlib.Omega.{arith}
 use borrow.Author.Needs.{needs}
 use Rattle.stack.proofs.join.Statement.{statement}
 use Rattle.stack.proofs.join.Tie as tie
