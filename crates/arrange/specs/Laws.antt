@@ -2,10 +2,10 @@
 use mathlib.Core.Path.{_≡_, refl, sym, ap, _∙_, subst}
 use mathlib.Core.Bool.{Bool, true, false}
 use mathlib.Core.List.{List, [], _∷_, _++_, map}
-use Prim.Native.Nat.{ℕ, _+_, _-_, _*_, _≤_, _<_}
+use Prim.Native.Nat.{ℕ, _+_, _-_, _≤_, _<_}
 use native.Mathlib.Omega.{arith}
 use borrow.Author.Tests.{ltb-false, lt-ltb, le-ltb}
-use lib.ListN.{length, take, drop, set, getD, length-set, length-append, length-map}
+use lib.ListN.{length, drop, set, getD, length-append, length-map}
 use lib.Seq.{sets, length-sets}
 use lib.Dec.{ltb}
 use lib.Ieee.{Float}

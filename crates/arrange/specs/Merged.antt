@@ -23,9 +23,9 @@ use Rattle.polygon.specs.Members.{All}
 use Rattle.room.specs.Rooms.{cellCounts, countsAt, Small}
 use Rattle.room.specs.Laws.{all-none, all-snoc, all-map}
 use Rattle.indexed.specs.declared.Pick.the-variants.{Only}
-use Rattle.indexed.specs.Indexed.{Search, met, onlyIn, searchBy, Places, joined, placed, indexPoint, withFace, indexFace, indexFaces}
+use Rattle.indexed.specs.Indexed.{met, onlyIn, searchBy, Places, joined, placed, indexPoint, withFace, indexFace, indexFaces}
 use Rattle.indexed.specs.Stored.{flat}
-use Rattle.merge.specs.Merge.{capped, merge}
+use Rattle.merge.specs.Merge.{merge}
 use Rattle.solids.specs.Frames.{facesAt}
 use Rattle.conform.specs.Cycles.{Among}
 use Rattle.arrange.specs.Facets.{Cycles}

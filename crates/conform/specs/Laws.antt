@@ -9,9 +9,9 @@ use lib.ListN.{length, take, drop, set, getD, length-set, length-append, length-
 use lib.Seq.{sets, length-sets, getD-drop}
 use lib.Ieee.{Float}
 use Rattle.refusal.specs.declared.Refusal.{Refusal}
-use Rattle.refusal.specs.Outcome.{Outcome, ok, refused, then, walk}
+use Rattle.refusal.specs.Outcome.{Outcome, ok, refused, walk}
 use Rattle.refusal.specs.Laws.{stop, go, walk-go, walk-stop, walk-end}
-use Rattle.lists.specs.Walks.{Pair, cyclic}
+use Rattle.lists.specs.Walks.{cyclic}
 use Rattle.lists.specs.Laws.{next, done, next-edge, edges-done}
 use Rattle.space.specs.declared.Point3.{Point3}
 use Rattle.space.specs.declared.Precision.{Precision}

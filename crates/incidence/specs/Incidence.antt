@@ -1,5 +1,5 @@
 -- One point against one edge, as `conform` of 000 has it: 15, 16. Definitions only.
-use mathlib.Core.Bool.{Bool, true, false, not, _&&_, cond}
+use mathlib.Core.Bool.{Bool, not, cond}
 use mathlib.Core.List.{List}
 use lib.Ieee.{binary64, mul}
 use Rattle.refusal.specs.Outcome.{refusalOf}
