@@ -196,14 +196,7 @@ fn edge_run(
 }
 
 // All edges in the order of their keys.
-fn walk_edges(
-    d: &[u64],
-    c: usize,
-    k: &[u64],
-    s: &[u64],
-    ord: &[u64],
-    ends: &mut [u64],
-) -> Paired
+fn walk_edges(d: &[u64], c: usize, k: &[u64], s: &[u64], ord: &[u64], ends: &mut [u64]) -> Paired
     requires { ⌜ (3 * c ≤ length (now d)) × Starts (now k) (now s) c × Ordered (now k) (now s) c (now ord) ⌝ }
     requires { ⌜ (rows (now k) (now s) c ≡ edgeKeys (laidRuns (now d) c)) × (c ≤ length (now ends)) ⌝ }
     ensures { λ r. ⌜ Edged (laidRuns (now (d .entry)) c) (now (ends .exit)) r ⌝ }

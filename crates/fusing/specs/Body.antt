@@ -30,6 +30,7 @@ use Rattle.shells.specs.Faces.{Owned}
 use Rattle.shells.specs.Named.{nameIn}
 use Rattle.cavities.specs.Steps.{volumeOf}
 use Rattle.fusing.specs.declared.Made.{Made}
+use Rattle.fusing.specs.declared.Bordered.{Bordered}
 use Rattle.fusing.specs.Bodied.{Bodied, Faced, namedShells}
 
 -- the facets of the body of some cells, by the slices
@@ -138,3 +139,34 @@ module _ (ps : List Float) (v starts owners : List ℕ) (f : ℕ) (x g : List �
       F.bodyOf (volumeOf ps v starts) (facetsOf v starts owners f) g ≡ F.orderShells (volumeOf ps v starts) (namedShells (facesBy owners x g) (endsOf (F.edges (rowRuns v starts 0 (facesBy owners x g)))))
   unfolding F.bodyOf
   body-goes e = go (F.checkEdges (F.runs (facetsOf v starts owners f) 0 (F.facesOf (facetsOf v starts owners f) g))) (λ _. F.orderShells (volumeOf ps v starts) (F.shellsOf (facetsOf v starts owners f) g)) tt (edges-are ∙ e) ∙ ap (F.orderShells (volumeOf ps v starts)) shells-are
+
+-- ---- the edges of one body, as they are checked
+
+pub border-size : (x fl₀ fl : List ℕ) (m : ℕ) → m ≤ length x → length x ≤ length fl₀ → length fl ≡ length fl₀ → length (take m fl) ≡ m
+border-size x fl₀ fl m h l e = length-take-le m fl (omega arith)
+
+-- The facets of the body, and what its edges say: their verdict, and where it is fine the pairs of neighbours.
+pub record Bordering (v starts owners x g : List ℕ) (fl e : List ℕ) (r : Bordered) : Type 0 where
+  pub few : r .faces ≤ length x
+  pub faces : take (r .faces) fl ≡ facesBy owners x g
+  pub told : heard (r .verdict) tt ≡ F.checkEdges (rowRuns v starts 0 (facesBy owners x g))
+  pub paired : r .verdict ≡ Fine → take (2 * r .pairs) e ≡ endsOf (F.edges (rowRuns v starts 0 (facesBy owners x g)))
+  pub half : r .verdict ≡ Fine → 2 * r .pairs ≤ length e
+
+module _ (v starts owners : List ℕ) (f : ℕ) (x g l : List ℕ) (q : Owned owners f x) (made : l ≡ facesBy owners x g) where
+  pub border-listed : Starts v starts f → Listed v starts f l
+  border-listed w = record {
+    fine = w;
+    inn = λ k h. each-getD (λ i. i < f) l 0 k (subst (Each (λ i. i < f)) (sym made) (each-kept (λ i. i < f) (λ i. occ (getD owners i 0) g) x (each-of (λ i. i < f) x (q .inn)))) h;
+  }
+
+  pub border-room : (d k s o e : List ℕ) → Room v starts x d k s o e → Room v starts l d k s o e
+  border-room d k s o e w =
+      let n : length (rowRuns v starts 0 l) ≤ length (rowRuns v starts 0 x) = rw made (fewer-runs v starts (λ i. occ (getD owners i 0) g) 0 x) in
+      record { runs = omega (arith, w .runs); keys = omega (arith, w .keys); begins = omega (arith, w .begins); order = omega (arith, w .order); ends = omega (arith, w .ends) }
+
+pub bordered : (v starts owners x g fl : List ℕ) (m : ℕ) (e : List ℕ) (p : Paired) → take m fl ≡ facesBy owners x g → m ≤ length x → Edged (rowRuns v starts 0 (take m fl)) e p →
+    Bordering v starts owners x g fl e (record { verdict = p .verdict; faces = m; pairs = p .pairs })
+bordered v starts owners x g fl m e p made h w =
+    let w′ : Edged (rowRuns v starts 0 (facesBy owners x g)) e p = subst (λ l. Edged (rowRuns v starts 0 l) e p) made w in
+    record { few = h; faces = made; told = w′ .told; paired = w′ .paired; half = w′ .half }

@@ -4,17 +4,57 @@ use refusal::Verdict;
 ghost use mathlib.Core.Path.{_≡_};
 ghost use Prim.Native.Nat.{ℕ, _+_, _*_, _<_, _≤_};
 ghost use lib.ListN.{length};
+ghost use Rattle.keys.specs.Rows.{Starts};
+ghost use Rattle.edges.specs.Whole.{Room};
+ghost use Rattle.shells.specs.Faces.{Owned};
 ghost use Rattle.volume.specs.Shell.{Points};
 ghost use Rattle.bodies.specs.Fusing.{orderShells};
 ghost use Rattle.shells.specs.Named.{Spread};
 ghost use Rattle.cavities.specs.Steps.{volumeOf};
 ghost use Rattle.fusing.specs.Bodied.{Bodied, Faced, namedShells};
+ghost use Rattle.fusing.specs.Body.{Bordering};
 
 // A body's verdict, and how many facets and shells are written behind it.
 pub struct Made {
     pub verdict: Verdict,
     pub facets: usize,
     pub shells: usize,
+}
+
+// The edges of a body: their verdict, and how many facets it has and pairs of neighbours.
+pub struct Bordered {
+    pub verdict: Verdict,
+    pub faces: usize,
+    pub pairs: usize,
+}
+
+// The facets of the body of some cells, and its edges.
+fn body_edges(
+    v: &[u64],
+    starts: &[u64],
+    owners: &[u64],
+    f: usize,
+    ext: &[u64],
+    cells: &[u64],
+    faces: &mut [u64],
+    d: &mut [u64],
+    k: &mut [u64],
+    s: &mut [u64],
+    ord: &mut [u64],
+    ends: &mut [u64],
+) -> Bordered
+    requires { ⌜ Starts (now v) (now starts) f × Owned (now owners) f (now ext) × (length (now ext) ≤ length (now faces)) ⌝ }
+    requires { ⌜ Room (now v) (now starts) (now ext) (now d) (now k) (now s) (now ord) (now ends) ⌝ }
+    ensures { λ r. ⌜ Bordering (now (v .entry)) (now (starts .entry)) (now (owners .entry)) (now (ext .entry)) (now (cells .entry)) (now (faces .exit)) (now (ends .exit)) r ⌝ }
+{
+    let m = shells::body_faces(owners, f, ext, cells, faces);
+    let p = edges::check_edges(v, starts, f, &faces[..m], d, k, s, ord, ends);
+    let verdict = p.verdict;
+    Bordered {
+        verdict,
+        faces: m,
+        pairs: p.pairs,
+    }
 }
 
 // The shells of a body in order: its facets go to `out` from `at` on, how many each shell has to `sizes` from `sat` on.

@@ -15,12 +15,6 @@ facetAt v starts owners i = record { cell = getD owners i 0; vertices = row v st
 unfoldable pub facetsOf : List ℕ → List ℕ → List ℕ → ℕ → List Facet
 facetsOf v starts owners f = map (facetAt v starts owners) (range f)
 
--- f facets of n cells
-pub record Arranged (v starts owners : List ℕ) (f n : ℕ) : Type 0 where
-  pub rows-fine : Starts v starts f
-  pub room : f ≤ length owners
-  pub cells : (k : ℕ) → k < f → getD owners k 0 < n
-
 module _ (v starts owners : List ℕ) (f : ℕ) where
   pub many-facets : length (facetsOf v starts owners f) ≡ f
   unfolding facetsOf

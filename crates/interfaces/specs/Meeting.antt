@@ -4,7 +4,7 @@ use mathlib.Core.List.{List, [], _∷_, _++_, append-assoc, append-nil}
 use Prim.Native.Nat.{ℕ, zero, suc, _+_, _*_, _≤_, _<_}
 use native.Mathlib.Omega.{arith}
 use native.Mathlib.Numerals.{add-one}
-use lib.ListN.{length, set, take, drop, length-set}
+use lib.ListN.{length, set, take, drop, length-set, drop-of-length-le}
 use lib.Seq.{take-suc-set}
 use Rattle.refusal.specs.declared.Refusal.{Refusal}
 use Rattle.refusal.specs.declared.Verdict.{Verdict}
@@ -17,7 +17,7 @@ use Rattle.sums.specs.RunLaws.{Run}
 use Rattle.groups.specs.Ends.{endsOf}
 use Rattle.bodies.specs.Fusing.{Facet, cellOf, keys, judgeUsers, checkFacets, exterior, interfaces}
 use Rattle.interfaces.specs.declared.Met.{Met}
-use Rattle.interfaces.specs.Runs.{judge, named, Judged, judged-start, judged-one, judged-two, judged-stop, judged-told, judged-pairs, drop-all}
+use Rattle.interfaces.specs.Runs.{judge, named, Judged, judged-start, judged-one, judged-two, judged-stop, judged-told, judged-pairs}
 
 -- What the walk over the keys leaves: its verdict, and where it is fine the facets of one cell in `x` and the pairs of cells that meet in `d`.
 pub record Met-all (fs : List Facet) (x d : List ℕ) (m : Met) : Type 0 where
@@ -97,7 +97,7 @@ module _ (fs : List Facet) (ks : List (List ℕ)) where
       whole = unfold checkFacets in ap (λ ks. walk (λ _ i. judgeUsers fs (users ks i)) tt (order ks)) q
 
       none : lonesFrom ks (m .at) ≡ []
-      none = unfold keep in ap (keep (λ i. hit 1 (length (users ks i)))) (drop-all (order ks) (m .at) h)
+      none = unfold keep in ap (keep (λ i. hit 1 (length (users ks i)))) (drop-of-length-le (order ks) h)
 
       told : (v : Verdict) → Standing x d v (m .at) (m .listed) (m .pairs) → heard v tt ≡ checkFacets fs
       told Fine w = unfold Standing heard in (judged-told (judgeUsers fs) (cellOf fs) ks d (m .at) (m .pairs) (w .judged) h ∙ whole)

@@ -4,8 +4,8 @@ use mathlib.Core.List.{List, [], _∷_, _++_, map, append-assoc, append-nil}
 use Prim.Native.Nat.{ℕ, zero, suc, _+_, _*_, _≤_, _<_}
 use native.Mathlib.Omega.{arith}
 use native.Mathlib.Numerals.{add-one}
-use lib.ListN.{length, getD, set, take, drop, length-set}
-use lib.Seq.{drop-cons, drop-nil, take-suc-set}
+use lib.ListN.{length, getD, set, take, drop, length-set, drop-of-length-le}
+use lib.Seq.{drop-cons, take-suc-set}
 use Rattle.refusal.specs.declared.Refusal.{Refusal}
 use Rattle.refusal.specs.Outcome.{Outcome, ok, refused, walk}
 use Rattle.refusal.specs.Laws.{walk-go, walk-stop, walk-end}
@@ -13,11 +13,6 @@ use Rattle.sums.specs.Keys.{order, users, led, flat, pairs}
 use Rattle.sums.specs.SizeLaws.{Fresh, at, pairsFrom, fresh-start, fresh-next, one-left, one-users, one-pairs, two-left, two-users, two-alike, two-pairs}
 use Rattle.sums.specs.RunLaws.{Run}
 use Rattle.groups.specs.Ends.{endsOf}
-
-pub drop-all : (l : List ℕ) (n : ℕ) → length l ≤ n → drop n l ≡ []
-drop-all [] n h = drop-nil n
-drop-all (x ∷ l) zero h = absurd (omega arith)
-drop-all (x ∷ l) (suc n) h = drop-all l n (omega arith)
 
 two-stored : (d : List ℕ) (b y z : ℕ) → 2 * b + 1 < length d → take (2 * (b + 1)) (set (set d (2 * b) y) (2 * b + 1) z) ≡ take (2 * b) d ++ (y ∷ z ∷ [])
 two-stored d b y z l =
@@ -83,8 +78,8 @@ module _ (J : List ℕ → Outcome (Unit {0})) (g : ℕ → ℕ) (ks : List (Lis
 
     -- the end
     pub judged-told : length (order ks) ≤ p → ok tt ≡ walk judge tt (order ks)
-    judged-told h = sym (walk-end judge tt) ∙ sym (ap (walk judge tt) (drop-all (order ks) p h)) ∙ w .left
+    judged-told h = sym (walk-end judge tt) ∙ sym (ap (walk judge tt) (drop-of-length-le (order ks) h)) ∙ w .left
 
     pub judged-pairs : length (order ks) ≤ p → take (2 * b) d ≡ named (pairs ks)
     unfolding flat endsOf
-    judged-pairs h = sym (append-nil (take (2 * b) d)) ∙ ap (λ l. take (2 * b) d ++ l) (sym (ap (λ l. named (flat (λ i. led i (users ks i)) l)) (drop-all (order ks) p h))) ∙ w .paired
+    judged-pairs h = sym (append-nil (take (2 * b) d)) ∙ ap (λ l. take (2 * b) d ++ l) (sym (ap (λ l. named (flat (λ i. led i (users ks i)) l)) (drop-of-length-le (order ks) h))) ∙ w .paired

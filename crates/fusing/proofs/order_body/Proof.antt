@@ -47,17 +47,21 @@ list-facets-requires : tie.Need-list-facets-requires
 list-facets-requires c κs =
     let A = c .before .before .before .before .before .before .before .before .before .before .before .before .before .before .before .before .before .before .before .before .before .before .before .before .before .before .before .before .before .before .before .before .before .before .before .before .before .before .before .before in
     let a = A .args in
-    let G = c .before .before .before .before .before .before .before .before .before .before .before .before .before .before .before .before .before .before .before .before .find-shells .ensures in
-    (shells-fine (a .v .now) (a .starts .now) (a .f) _ _ _ _ _ _ _ _ _ _ _ (A .pre .1 .0) G, body-outer (a .v .now) (a .starts .now) (a .f) _ _ _ _ _ _ _ _ _ _ _ (A .pre .1 .0) G (a .points .now) (a .at) (a .sat) _ (a .out .now) (a .sizes .now) _ (c .before .before .before .before .before .find-outer .ensures) (c .before .before .before .enum-told .given .1),
-    omega (arith, all-facets (a .v .now) (a .starts .now) (a .f) _ _ _ _ _ _ _ _ _ _ _ (A .pre .1 .0) G, A .pre .1 .1 .0))
+    let G = c .before .before .before .before .before .before .before .before .before .before .before .before .before .before .before .before .before .before .before .before .find-shells .ensures in (
+      shells-fine (a .v .now) (a .starts .now) (a .f) _ _ _ _ _ _ _ _ _ _ _ (A .pre .1 .0) G,
+      body-outer (a .v .now) (a .starts .now) (a .f) _ _ _ _ _ _ _ _ _ _ _ (A .pre .1 .0) G (a .points .now) (a .at) (a .sat) _ (a .out .now) (a .sizes .now) _ (c .before .before .before .before .before .find-outer .ensures) (c .before .before .before .enum-told .given .1),
+      omega (arith, all-facets (a .v .now) (a .starts .now) (a .f) _ _ _ _ _ _ _ _ _ _ _ (A .pre .1 .0) G, A .pre .1 .1 .0),
+    )
 
 list-sizes-requires : tie.Need-list-sizes-requires
 list-sizes-requires c κs =
     let A = c .before .before .before .before .before .before .before .before .before .before .before .before .before .before .before .before .before .before .before .before .before .before .before .before .before .before .before .before .before .before .before .before .before .before .before .before .before .before .before .before .before .before .before .before .before .before in
     let a = A .args in
-    let G = c .before .before .before .before .before .before .before .before .before .before .before .before .before .before .before .before .before .before .before .before .before .before .before .before .before .before .find-shells .ensures in
-    (shells-fine (a .v .now) (a .starts .now) (a .f) _ _ _ _ _ _ _ _ _ _ _ (A .pre .1 .0) G, body-outer (a .v .now) (a .starts .now) (a .f) _ _ _ _ _ _ _ _ _ _ _ (A .pre .1 .0) G (a .points .now) (a .at) (a .sat) _ (a .out .now) (a .sizes .now) _ (c .before .before .before .before .before .before .before .before .before .before .before .find-outer .ensures) (c .before .before .before .before .before .before .before .before .before .enum-told .given .1),
-    omega (arith, few-shells (a .v .now) (a .starts .now) (a .f) _ _ _ _ _ _ _ _ _ _ _ (A .pre .1 .0) G, A .pre .1 .1 .1))
+    let G = c .before .before .before .before .before .before .before .before .before .before .before .before .before .before .before .before .before .before .before .before .before .before .before .before .before .before .find-shells .ensures in (
+      shells-fine (a .v .now) (a .starts .now) (a .f) _ _ _ _ _ _ _ _ _ _ _ (A .pre .1 .0) G,
+      body-outer (a .v .now) (a .starts .now) (a .f) _ _ _ _ _ _ _ _ _ _ _ (A .pre .1 .0) G (a .points .now) (a .at) (a .sat) _ (a .out .now) (a .sizes .now) _ (c .before .before .before .before .before .before .before .before .before .before .before .find-outer .ensures) (c .before .before .before .before .before .before .before .before .before .enum-told .given .1),
+      omega (arith, few-shells (a .v .now) (a .starts .now) (a .f) _ _ _ _ _ _ _ _ _ _ _ (A .pre .1 .0) G, A .pre .1 .1 .1),
+    )
 
 add-t52 : tie.Need-add-t52
 add-t52 c = omega (arith, c .before .before .before .before .before .before .before .before .before .before .before .before .before .before .before .before .before .before .before .before .before .before .before .before .before .before .before .before .before .before .before .before .before .before .before .before .before .before .before .before .before .before .before .before .before .before .before .before .before .pre .1 .1 .0, c .before .before .before .before .before .before .before .before .before .before .before .before .before .before .before .before .before .before .before .before .before .before .before .before .before .before .before .before .before .before .before .before .before .before .before .before .before .before .before .before .before .before .before .before .before .before .before .before .before .good)
