@@ -407,11 +407,11 @@ pub fn intersection(
     let mut i = 0;
     while i < many {
         let n = corners[j + i] as usize;
-        let w = room::get_plane(src, o);
+        let plane = room::get_plane(src, o);
         s = cut_rest(
             t,
             limit,
-            w,
+            plane,
             s,
             rest,
             held,
