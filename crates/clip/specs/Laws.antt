@@ -121,22 +121,21 @@ made-then (ok l) u c g e =
     ap (λ x. then (heard (x .verdict) c) (g (cornersOf (x .polygon)))) e ∙ ap (λ x. g x c) (corners-polygon l)
 made-then (refused r) u c g e = ap (λ x. then (heard (x .verdict) c) (g (cornersOf (x .polygon)))) e
 
-pub cutter-kept : (t : Precision) (room at k : ℕ) (w : Plane) (f : Face) (s : Going) (cap d : List Float) (n : List ℕ) (cap′ d′ : List Float) (n′ : List ℕ) (face′ : List Float) (g : Ringed) (p : Polygon) (u : Made) (v : Plane) (r : Kept) →
+pub cutter-kept : (t : Precision) (room at k : ℕ) (w : Plane) (f : Face) (s : Going) (cap d : List Float) (n : List ℕ) (cap′ d′ : List Float) (n′ : List ℕ) (face′ : List Float) (g : Ringed) (u : Made) (v : Plane) (r : Kept) →
     Few room s → s .verdict ≡ Fine → Rung (cutRing t w (pointsAt cap 0 (s .caps)) (f .points)) g face′ cap′ → g .verdict ≡ Fine →
-    v ≡ f .plane → p ≡ polygon (pointsAt face′ 0 (g .corners)) → u ≡ made (unique t (cornersOf p)) →
+    v ≡ f .plane → u ≡ made (unique t (pointsAt face′ 0 (g .corners))) →
     Turned room at k (λ c. keepFace (ltb (length (cornersOf (u .polygon))) 3) room c (record { plane = v; points = cornersOf (u .polygon) })) (record { verdict = u .verdict; faces = s .faces; corners = s .corners }) r d n d′ n′ →
     Cutter room at k (λ x. cutFace t room w x f) s (record { verdict = r .verdict; faces = r .faces; corners = r .corners; caps = g .caps }) cap d n cap′ d′ n′
 unfolding heard ringOf cutFace joined
-cutter-kept t room at k w f s cap d n cap′ d′ n′ face′ g p u v r h e z q ev ep eu turned = record {
+cutter-kept t room at k w f s cap d n cap′ d′ n′ face′ g u v r h e z q ev eu turned = record {
   on = λ d₀ n₀ o x.
       let caps = pointsAt cap′ 0 (g .caps) in
       let l = pointsAt face′ 0 (g .corners) in
       let a : cutRing t w (pointsAt cap 0 (s .caps)) (f .points) ≡ ok (record { face = pointsAt face′ 0 (g .corners); cap = pointsAt cap′ 0 (g .caps) }) =
       sym (z .is) ∙ ap (λ y. heard y (record { face = pointsAt face′ 0 (g .corners); cap = pointsAt cap′ 0 (g .caps) })) q in
-      let b : u ≡ made (unique t (pointsAt face′ 0 (g .corners))) = eu ∙ ap (λ y. made (unique t y)) (ap cornersOf ep ∙ corners-polygon l) in
       let y = turned .on d₀ n₀ (heard (u .verdict) (x .cell)) (record { cell = x .cell; is = refl; floats = x .floats; counts = x .counts; faces-are = x .faces-are; corners-are = x .corners-are; small = x .small }) in
       let m : heard (r .verdict) (y .cell) ≡ then (unique t (pointsAt face′ 0 (g .corners))) (λ i. keepFace (ltb (length i) 3) room (x .cell) (record { plane = f .plane; points = i })) =
-      y .is ∙ made-then (unique t l) u (x .cell) (λ i c. keepFace (ltb (length i) 3) room c (record { plane = v; points = i })) b
+      y .is ∙ made-then (unique t l) u (x .cell) (λ i c. keepFace (ltb (length i) 3) room c (record { plane = v; points = i })) eu
       ∙ ap (λ i. then (unique t l) (λ j. keepFace (ltb (length j) 3) room (x .cell) (record { plane = i; points = j }))) ev in
       record {
         cell = y .cell;

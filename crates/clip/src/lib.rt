@@ -93,8 +93,7 @@ fn cut_face(
         };
     };
     let w = room::get_plane(src, o);
-    let p = room::get_points(face, 0, m);
-    let made = polygon::unique(p, t);
+    let made = polygon::unique(face, 0, m, t);
     let mv = made.verdict;
     let q = made.polygon;
     let old = Kept {

@@ -67,14 +67,12 @@ module _ (t : Precision) (s d : List Float) (n : List ℕ) (f : Bool) (fits : f 
   unfolding uniqueLent
   unique-short e = subst (λ b. Told (unless (not b) 64 (unique t (pointsAt s 0 (length s / 3)))) 64 d n d n) (sym e ∙ fits) (told-short (unique t (pointsAt s 0 (length s / 3))) d n)
 
-  pub unique-done : (p : Polygon) (m : Made) (r : ℕ) (d′ : List Float) (n′ : List ℕ) → f ≡ true → p ≡ polygon (pointsAt s 0 (length s / 3)) → m ≡ made (unique t (cornersOf p)) →
+  pub unique-done : (m : Made) (r : ℕ) (d′ : List Float) (n′ : List ℕ) → f ≡ true → m ≡ made (unique t (pointsAt s 0 (length s / 3))) →
       r ≡ numberBy (m .verdict) → d′ ≡ whereFine (m .verdict) (sets d 0 (floatsOf (cornersOf (m .polygon)))) d → n′ ≡ whereFine (m .verdict) (set n 0 (m .polygon .n)) n →
       Told (uniqueLent t s (length d) (length n)) r d n d′ n′
   unfolding uniqueLent
-  unique-done p m r d′ n′ e g h a b c =
-      let l = pointsAt s 0 (length s / 3) in
-      let is : m ≡ made (unique t l) = h ∙ ap (λ x. made (unique t (cornersOf x))) g ∙ ap (λ x. made (unique t x)) (corners-polygon l) in
-      subst (λ b. Told (unless (not b) 64 (unique t l)) r d n d′ n′) (sym e ∙ fits) (told-made _ m r d n d′ n′ is a b c)
+  unique-done m r d′ n′ e h a b c =
+      subst (λ b. Told (unless (not b) 64 (unique t (pointsAt s 0 (length s / 3)))) r d n d′ n′) (sym e ∙ fits) (told-made _ m r d n d′ n′ h a b c)
 
 module _ (points cap flat order chain d n : ℕ) (f : Bool) (fits : f ≡ hullFits points cap flat order chain d n) where
   pub hull-work : f ≡ true → (3 * points ≤ cap) × (2 * points ≤ flat) × (points ≤ order) × (2 * points ≤ chain)

@@ -56,8 +56,7 @@ pub extern "C" fn leaf_unique(points: &[f64], local: f64, out: &mut [f64], told:
         linear: local,
         local,
     };
-    let p = room::get_points(points, 0, points.len() / 3);
-    put_made(out, told, polygon::unique(p, t))
+    put_made(out, told, polygon::unique(points, 0, points.len() / 3, t))
 }
 
 fn hull_fits(

@@ -1,11 +1,12 @@
 -- The two loops of `unique`: what stands at their heads, and how a turn keeps it.
 use mathlib.Core.Path.{_≡_, refl, sym, ap, _∙_}
 use mathlib.Core.List.{List, [], _∷_, _++_}
-use Prim.Native.Nat.{ℕ, _+_, _<_, _≤_, min}
+use Prim.Native.Nat.{ℕ, zero, suc, _+_, _*_, _<_, _≤_}
 use native.Mathlib.Omega.{arith}
-use native.Mathlib.Decide.{decLt}
+use native.Mathlib.Nat.{not-suc-le-zero, le-of-suc-le-suc}
 use lib.ListN.{length, take, drop, getD, set, length-append}
 use lib.Seq.{take-all}
+use lib.Ieee.{Float}
 use Rattle.refusal.specs.declared.Refusal.{Refusal}
 use Rattle.refusal.specs.declared.Verdict.the-variants.{Fine}
 use Rattle.refusal.specs.Outcome.{ok, refused, walk}
@@ -19,6 +20,7 @@ use Rattle.space.specs.Near.{nearOf}
 use Rattle.space.specs.Vector.{origin, nowhere}
 use Rattle.polygon.specs.declared.Made.{Made}
 use Rattle.polygon.specs.Polygons.{padded, polygon, made}
+use Rattle.polygon.specs.Memory.{pointAt, pointsAt}
 use Rattle.polygon.specs.Unique.{both, scan, keepOne, unique}
 use Rattle.polygon.specs.Laws.{corners-polygon, length-padded, keep-near, keep-apart, keep-refused, scan-next, scan-done}
 
@@ -58,14 +60,14 @@ module _ {t : Precision} {l : List Point3} {n : ℕ} {a : List Point3} {m i : �
   pub held : take m a ≡ I .kept
   held = ap (λ b. take m b) (I .array) ∙ ap (λ k. take k (padded (I .kept))) (I .count) ∙ corners-polygon (I .kept)
 
-  heard : {c : Closeness} → c ≡ scan t (getD l i nowhere) Apart (take m a) → scan t (getD l i nowhere) Apart (I .kept) ≡ c
-  heard e = sym (e ∙ ap (scan t (getD l i nowhere) Apart) held)
+  heard : {c : Closeness} (q : Point3) → c ≡ scan t q Apart (take m a) → scan t q Apart (I .kept) ≡ c
+  heard q e = sym (e ∙ ap (scan t q Apart) held)
 
-  onward : i < n → walk (keepOne t) (I .kept) (getD l i nowhere ∷ drop (i + 1) (take n l)) ≡ unique t (take n l)
-  onward h = rw (next l n i nowhere h (I .long)) at (I .rest)
+  onward : (q : Point3) → q ≡ getD l i nowhere → i < n → walk (keepOne t) (I .kept) (q ∷ drop (i + 1) (take n l)) ≡ unique t (take n l)
+  onward q g h = ap (λ x. walk (keepOne t) (I .kept) (x ∷ drop (i + 1) (take n l))) g ∙ (rw (next l n i nowhere h (I .long)) at (I .rest))
 
-  pub kept-near : i < n → Near ≡ scan t (getD l i nowhere) Apart (take m a) → Kept t l n a m (i + 1)
-  kept-near h e = record {
+  pub kept-near : (q : Point3) → q ≡ getD l i nowhere → i < n → Near ≡ scan t q Apart (take m a) → Kept t l n a m (i + 1)
+  kept-near q g h e = record {
     kept = I .kept;
     array = I .array;
     count = I .count;
@@ -73,24 +75,24 @@ module _ {t : Precision} {l : List Point3} {n : ℕ} {a : List Point3} {m i : �
     low = omega arith;
     small = I .small;
     long = I .long;
-    rest = sym (keep-near t (I .kept) (getD l i nowhere) (drop (i + 1) (take n l)) (heard e)) ∙ onward h;
+    rest = sym (keep-near t (I .kept) q (drop (i + 1) (take n l)) (heard q e)) ∙ onward q g h;
   }
 
-  pub kept-apart : i < n → Apart ≡ scan t (getD l i nowhere) Apart (take m a) → Kept t l n (set a m (getD l i nowhere)) (m + 1) (i + 1)
-  kept-apart h e = record {
-    kept = I .kept ++ (getD l i nowhere ∷ []);
-    array = ap (λ b. set b m (getD l i nowhere)) (I .array) ∙ ap (λ k. set (padded (I .kept)) k (getD l i nowhere)) (I .count)
-        ∙ pad-set (I .kept) 128 origin (getD l i nowhere) (omega (arith, I .count, I .few, I .small));
-    count = omega (arith, I .count, length-append (I .kept) (getD l i nowhere ∷ []));
+  pub kept-apart : (q : Point3) → q ≡ getD l i nowhere → i < n → Apart ≡ scan t q Apart (take m a) → Kept t l n (set a m q) (m + 1) (i + 1)
+  kept-apart q g h e = record {
+    kept = I .kept ++ (q ∷ []);
+    array = ap (λ b. set b m q) (I .array) ∙ ap (λ k. set (padded (I .kept)) k q) (I .count)
+        ∙ pad-set (I .kept) 128 origin q (omega (arith, I .count, I .few, I .small));
+    count = omega (arith, I .count, length-append (I .kept) (q ∷ []));
     few = omega (arith, I .few);
     low = omega arith;
     small = I .small;
     long = I .long;
-    rest = sym (keep-apart t (I .kept) (getD l i nowhere) (drop (i + 1) (take n l)) (heard e)) ∙ onward h;
+    rest = sym (keep-apart t (I .kept) q (drop (i + 1) (take n l)) (heard q e)) ∙ onward q g h;
   }
 
-  pub kept-refused : {r : Refusal} → i < n → Refused r ≡ scan t (getD l i nowhere) Apart (take m a) → unique t (take n l) ≡ refused r
-  kept-refused {r} h e = sym (onward h) ∙ keep-refused t (I .kept) (getD l i nowhere) (drop (i + 1) (take n l)) r (heard e)
+  pub kept-refused : {r : Refusal} (q : Point3) → q ≡ getD l i nowhere → i < n → Refused r ≡ scan t q Apart (take m a) → unique t (take n l) ≡ refused r
+  kept-refused {r} q g h e = sym (onward q g h) ∙ keep-refused t (I .kept) q (drop (i + 1) (take n l)) r (heard q e)
 
   pub kept-end : n ≤ i → record { verdict = Fine; polygon = record { at = a; n = m } } ≡ made (unique t (take n l))
   unfolding made
@@ -99,15 +101,25 @@ module _ {t : Precision} {l : List Point3} {n : ℕ} {a : List Point3} {m i : �
       ap {B = Made} (λ b. record { verdict = Fine; polygon = record { at = b; n = m } }) (I .array)
       ∙ ap {B = Made} (λ k. record { verdict = Fine; polygon = record { at = padded (I .kept); n = k } }) (I .count) ∙ ap made e
 
-pub kept-start : (t : Precision) (l : List Point3) (n : ℕ) → n ≤ 128 → n ≤ length l → Kept t l n (padded []) 0 0
+kept-start : (t : Precision) (l : List Point3) (n : ℕ) → n ≤ 128 → n ≤ length l → Kept t l n (padded []) 0 0
 unfolding unique
 kept-start t l n h k = record { kept = []; array = refl; count = refl; few = omega arith; low = omega arith; small = h; long = k; rest = refl }
 
--- an array of 128 has no more corners than that
-pub all-of : {n : ℕ} (k : ℕ) (l : List Point3) → length l ≡ 128 → n ≡ min k 128 → take n l ≡ take k l
-all-of {n} k l e f = elim (decLt k 128) [
-  | yes h ↦
-      let g : n ≡ k = omega arith in
-      ap (λ m. take m l) g
-  | no h ↦ take-all n l (omega arith) ∙ sym (take-all k l (omega arith))
-]
+-- ---- the points of a slice
+
+length-points : (s : List Float) (at n : ℕ) → length (pointsAt s at n) ≡ n
+unfolding pointsAt
+length-points s at zero = refl
+length-points s at (suc n) = ap suc (length-points s (at + 3) n)
+
+pub all-points : (s : List Float) (at n : ℕ) → take n (pointsAt s at n) ≡ pointsAt s at n
+all-points s at n = take-all n (pointsAt s at n) (omega (arith, length-points s at n))
+
+pub points-start : (t : Precision) (s : List Float) (at n : ℕ) → n ≤ 128 → Kept t (pointsAt s at n) n (padded []) 0 0
+points-start t s at n h = kept-start t (pointsAt s at n) n h (omega (arith, length-points s at n))
+
+pub point-here : (s : List Float) (at n i : ℕ) → i < n → pointAt s (at + 3 * i) ≡ getD (pointsAt s at n) i nowhere
+unfolding pointsAt
+point-here s at zero i h = absurd (not-suc-le-zero h)
+point-here s at (suc n) zero h = ap (pointAt s) (omega arith)
+point-here s at (suc n) (suc i) h = ap (pointAt s) (omega arith) ∙ point-here s (at + 3) n i (le-of-suc-le-suc h)

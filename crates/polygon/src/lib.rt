@@ -6,12 +6,12 @@ use space::Point3;
 use space::Precision;
 ghost use mathlib.Core.Path.{_≡_};
 ghost use mathlib.Core.List.{[]};
-ghost use Prim.Native.Nat.{_+_, _≤_, min};
+ghost use Prim.Native.Nat.{_+_, _*_, _≤_};
 ghost use lib.ListN.{length};
 ghost use lib.Seq.{sets};
 ghost use Rattle.refusal.specs.Outcome.{refused};
-ghost use Rattle.polygon.specs.Polygons.{cornersOf, polygon, made};
-ghost use Rattle.polygon.specs.Memory.{floats, pointAt};
+ghost use Rattle.polygon.specs.Polygons.{polygon, made};
+ghost use Rattle.polygon.specs.Memory.{floats, pointAt, pointsAt};
 ghost use Rattle.polygon.specs.Unique.{both, unique};
 
 pub struct Polygon {
@@ -82,24 +82,18 @@ pub fn both(s: Closeness, c: Closeness) -> Closeness
     }
 }
 
-// How many corners an array of 128 holds of n.
-fn at_most_all(n: usize) -> usize
-    ensures { λ r. ⌜ r ≡ min n 128 ⌝ }
-{
-    if n < 128 { n } else { 128 }
-}
-
-// The corners without those that are near one before them. Both loops stand here, so that no polygon is copied for a corner.
-pub fn unique(p: Polygon, t: Precision) -> Made
-    ensures { λ r. ⌜ r ≡ made (unique t (cornersOf p)) ⌝ }
+// The n points of a slice from a place on, without those that are near one before them. Both loops stand here, so that no polygon
+// is copied for a corner.
+pub fn unique(points: &[f64], at: usize, n: usize, t: Precision) -> Made
+    requires { ⌜ (n ≤ 128) × (at + 3 * n ≤ length (now points)) ⌝ }
+    ensures { λ r. ⌜ r ≡ made (unique t (pointsAt (now (points .entry)) at n)) ⌝ }
     ensures { λ r. ⌜ r .polygon .n ≤ 128 ⌝ }
 {
-    let n = at_most_all(p.n);
     let mut out = empty();
     let mut m = 0;
     let mut i = 0;
     while i < n {
-        let q = p.at[i];
+        let q = get_point(points, at + 3 * i);
         let mut s = Closeness::Apart;
         let mut j = 0;
         while j < m {

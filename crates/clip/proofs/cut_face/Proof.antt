@@ -40,17 +40,14 @@ returns-2 c =
 get-plane-requires : tie.Need-get-plane-requires
 get-plane-requires c κs = search needs
 
-get-points-requires : tie.Need-get-points-requires
-get-points-requires c κs =
+unique-requires : tie.Need-unique-requires
+unique-requires c κs =
     let R = c .before .before .before .before .before .before .before .before in
     (R .cut-ring .ensures .few, omega (arith, R .cut-ring .ensures .few, R .cut-ring .kept .1 .1 .1 .1 .1 .0, c .before .before .before .before .before .before .before .before .before .before .before .before .before .before .before .before .before .before .pre .1 .face-fits))
 
-unique-requires : tie.Need-unique-requires
-unique-requires c κs = search needs
-
 keep-face-requires : tie.Need-keep-face-requires
 keep-face-requires c κs =
-    let S = c .before .before .before .before .before .before .before .before .before .before .before .before .before .before .before .before .before .before .before .before .before .before .before in
+    let S = c .before .before .before .before .before .before .before .before .before .before .before .before .before .before .before .before .before .before .before .before .before .before in
     let U = c .before .before .before in
     (record { few = S .pre .2 .few; fit = S .pre .2 .fit; place = S .pre .1 .place; slots = S .pre .1 .slots }, (U .unique .ensures .1, made-drawn _ _ (U .unique .ensures .0)))
 
@@ -68,8 +65,8 @@ same-length-6 c = search needs
 
 returns-3 : tie.Need-returns-3
 returns-3 c =
-    let S = c .before .before .before .before .before .before .before .before .before .before .before .before .before .before .before .before .before .before .before .before .before .before .before .before .before .before .before .before in
-    cutter-kept _ _ _ _ _ _ _ _ _ _ _ _ _ _ _ _ _ _ _ (S .pre .2) (c .before .before .before .before .before .before .before .before .before .before .before .before .before .before .before .before .before .before .before .before .before .enum-told .given .1) (c .before .before .before .before .before .before .before .before .before .before .before .before .before .before .before .before .before .before .cut-ring .ensures) (c .before .before .before .before .before .before .before .before .before .before .before .before .enum-told3 .given .1) (c .before .before .before .before .before .before .before .before .before .before .before .get-plane .ensures) (c .before .before .before .before .before .before .before .before .before .get-points .ensures) (c .before .before .before .before .before .before .before .before .unique .ensures .0) (c .before .before .before .before .keep-face .ensures)
+    let S = c .before .before .before .before .before .before .before .before .before .before .before .before .before .before .before .before .before .before .before .before .before .before .before .before .before .before .before in
+    cutter-kept _ _ _ _ _ _ _ _ _ _ _ _ _ _ _ _ _ _ (S .pre .2) (c .before .before .before .before .before .before .before .before .before .before .before .before .before .before .before .before .before .before .before .before .enum-told .given .1) (c .before .before .before .before .before .before .before .before .before .before .before .before .before .before .before .before .before .cut-ring .ensures) (c .before .before .before .before .before .before .before .before .before .before .before .enum-told3 .given .1) (c .before .before .before .before .before .before .before .before .before .before .get-plane .ensures) (c .before .before .before .before .before .before .before .before .unique .ensures .0) (c .before .before .before .before .keep-face .ensures)
 
 pub cut-face-spec : {M : Type 1} → statement M
 cut-face-spec =
@@ -86,7 +83,6 @@ cut-face-spec =
     same-length-2
     returns-2
     get-plane-requires
-    get-points-requires
     unique-requires
     keep-face-requires
     same-length-3

@@ -1,55 +1,44 @@
 use mathlib.Core.Path.{_≡_, sym, ap, _∙_}
 use mathlib.Core.Logic.{⊎-elim}
-use Prim.Native.Nat.{_-_, _≤_, min}
-use lib.ListN.{length, take}
-use Rattle.space.specs.declared.Closeness.the-variants.{Refused}
-use Rattle.lists.specs.Laws.{full}
-use Rattle.polygon.specs.Polygons.{made, cornersOf}
-use Rattle.polygon.specs.Unique.{unique}
-use Rattle.polygon.proofs.Turns.{Scanned, Kept, scanned-start, scanned-step, scanned-end, kept-start, kept-near, kept-apart, kept-refused, kept-end, room, all-of}
-use borrow.Author.Needs.{needs}
 use native.Mathlib.Omega.{arith}
+use Prim.Native.Nat.{_-_, _≤_}
+use lib.ListN.{length, getD}
+use Rattle.space.specs.Vector.{nowhere}
+use Rattle.space.specs.declared.Closeness.the-variants.{Refused}
+use Rattle.polygon.specs.Memory.{pointsAt}
+use Rattle.polygon.specs.Polygons.{made}
+use Rattle.polygon.specs.Unique.{unique}
+use Rattle.polygon.proofs.Turns.{Scanned, Kept, scanned-start, scanned-step, scanned-end, points-start, kept-near, kept-apart, kept-refused, kept-end, room, all-points, point-here}
+use borrow.Author.Needs.{needs}
 use Rattle.polygon.proofs.unique.Statement.{statement}
 use Rattle.polygon.proofs.unique.Tie as tie
 
 abbrev Inv-loop2 : tie.InvT-loop2
-Inv-loop2 t p n out m i q s₀ j₀ s j = Scanned t q (out .at) m s j
+Inv-loop2 points at n t out m i q s₀ j₀ s j = Scanned t q (out .at) m s j
 
 abbrev μ-loop2 : tie.MeasureT-loop2
-μ-loop2 t p n out m i q s₀ j₀ s j = m - j
+μ-loop2 points at n t out m i q s₀ j₀ s j = m - j
 
 abbrev Inv-loop : tie.InvT-loop
-Inv-loop t p n out₀ m₀ i₀ out m i = Kept t (p .at) n (out .at) m i
+Inv-loop points at n t out₀ m₀ i₀ out m i = Kept t (pointsAt points at n) n (out .at) m i
 
 abbrev μ-loop : tie.MeasureT-loop
-μ-loop t p n out₀ m₀ i₀ out m i = n - i
-
-at-most-all-requires : tie.Need-at-most-all-requires Inv-loop2 μ-loop2 Inv-loop μ-loop
-at-most-all-requires c κs = search needs
+μ-loop points at n t out₀ m₀ i₀ out m i = n - i
 
 empty-requires : tie.Need-empty-requires Inv-loop2 μ-loop2 Inv-loop μ-loop
 empty-requires c κs = search needs
 
-full-of : (c : tie.Start Inv-loop2 μ-loop2 Inv-loop μ-loop) → length (c .args .t1 .at) ≡ 128
-full-of c = full _ (c .args .t1 .at) 128 (c .good .0 .1 .1 .0 .1 .0 .1)
-
--- the corners that the loop walks are all that there are
-whole : (c : tie.After-at-most-all Inv-loop2 μ-loop2 Inv-loop μ-loop) → take (c .at-most-all .result) (c .before .args .t1 .at) ≡ cornersOf (c .before .args .t1)
-whole c = all-of (c .before .args .t1 .n) (c .before .args .t1 .at) (full-of (c .before)) (c .at-most-all .ensures)
-
 loop-holds : tie.Need-loop-holds Inv-loop2 μ-loop2 Inv-loop μ-loop
-loop-holds c =
-    let S = c .before .before in
-    let A = S .args in
-    let k = full-of S in
-    let e : c .before .at-most-all .result ≡ min (A .t1 .n) 128 = c .before .at-most-all .ensures in
-    rw (c .empty .ensures) (kept-start (A .t) (A .t1 .at) (c .before .at-most-all .result) (omega arith) (omega arith))
+loop-holds c = let A = c .before .before .args in rw (c .empty .ensures) (points-start (A .t) (A .points .now) (A .at) (A .n) (c .before .before .pre .0))
 
-mul-q : tie.Need-mul-q Inv-loop2 μ-loop2 Inv-loop μ-loop
-mul-q c = search needs
+mul-get-point : tie.Need-mul-get-point Inv-loop2 μ-loop2 Inv-loop μ-loop
+mul-get-point c = search needs
 
-element-copy-out-q : tie.Need-element-copy-out-q Inv-loop2 μ-loop2 Inv-loop μ-loop
-element-copy-out-q c = search needs
+add-get-point : tie.Need-add-get-point Inv-loop2 μ-loop2 Inv-loop μ-loop
+add-get-point c = search needs
+
+get-point-requires : tie.Need-get-point-requires Inv-loop2 μ-loop2 Inv-loop μ-loop
+get-point-requires c κs = search needs
 
 loop2-holds : tie.Need-loop2-holds Inv-loop2 μ-loop2 Inv-loop μ-loop
 loop2-holds c = scanned-start
@@ -80,6 +69,10 @@ loop2-again c =
     let h : L .loop .m ≤ length (L .loop .out .at) = omega (arith, room I, I .few, I .low, I .small) in
     rw (c .both .ensures, c .before .near .ensures) (scanned-step (J .loop2 .inv) (c .before .before .before .loop2-test .taken) h)
 
+-- the point at hand
+here : (c : tie.After-get-point Inv-loop2 μ-loop2 Inv-loop μ-loop) → c .get-point .result ≡ getD (pointsAt (c .before .before .before .before .before .args .points .now) (c .before .before .before .before .before .args .at) (c .before .before .before .before .before .args .n)) (c .before .before .loop .i) nowhere
+here c = let A = c .before .before .before .before .before .args in c .get-point .ensures ∙ point-here (A .points .now) (A .at) (A .n) (c .before .before .loop .i) (c .before .loop-test .taken)
+
 enum-known-s : tie.Need-enum-known-s Inv-loop2 μ-loop2 Inv-loop μ-loop
 enum-known-s c = search needs
 
@@ -91,10 +84,12 @@ unfolding made
 returns c =
     let K = c .before .before .before .before in
     let J = K .before in
-    let L = J .before .before .before in
+    let G = J .before in
+    let L = G .before .before in
+    let A = L .before .before .before .args in
     let told : J .loop2 .s ≡ Refused (c .before .before .s .given .0 .0) = cc in
-    let e = kept-refused (L .loop .inv) (J .before .before .loop-test .taken) (sym told ∙ scanned-end (J .loop2 .inv) (K .loop2-test .left)) in
-    let o = c .none .ensures ∙ ap made (sym e ∙ ap (unique (L .before .before .before .args .t)) (whole (L .before .before))) in
+    let e = kept-refused (L .loop .inv) (G .get-point .result) (here G) (G .before .loop-test .taken) (sym told ∙ scanned-end (J .loop2 .inv) (K .loop2-test .left)) in
+    let o = c .none .ensures ∙ ap made (sym e ∙ ap (unique (A .t)) (all-points (A .points .now) (A .at) (A .n))) in
     (o, omega (arith, ap (λ r. r .polygon .n) (c .none .ensures)))
 
 enum-told : tie.Need-enum-told Inv-loop2 μ-loop2 Inv-loop μ-loop
@@ -103,8 +98,8 @@ enum-told c = search needs
 enum-told-2 : tie.Need-enum-told-2 Inv-loop2 μ-loop2 Inv-loop μ-loop
 enum-told-2 c = search needs
 
-mul-q-2 : tie.Need-mul-q-2 Inv-loop2 μ-loop2 Inv-loop μ-loop
-mul-q-2 c = search needs
+mul-q : tie.Need-mul-q Inv-loop2 μ-loop2 Inv-loop μ-loop
+mul-q c = search needs
 
 element-set-from-q : tie.Need-element-set-from-q Inv-loop2 μ-loop2 Inv-loop μ-loop
 element-set-from-q c = search needs
@@ -121,20 +116,21 @@ loop-less c = search needs
 loop-again : tie.Need-loop-again Inv-loop2 μ-loop2 Inv-loop μ-loop
 loop-again c =
     let J = c .before .before in
-    let L = J .before .before .before in
-    let I = L .loop .inv in
-    let h = J .before .before .loop-test .taken in
+    let G = J .before in
+    let I = G .before .before .loop .inv in
+    let h = G .before .loop-test .taken in
     let e = scanned-end (J .loop2 .inv) (c .before .loop2-test .left) in
     ⊎-elim
-    (λ w. rw (w .2, w .3) (kept-near I h (sym (w .1 .given .1) ∙ e)))
-    (λ w. rw (w .2, w .3) (kept-apart I h (sym (w .1 .given .1) ∙ e)))
+    (λ w. rw (w .2, w .3) (kept-near I (G .get-point .result) (here G) h (sym (w .1 .given .1) ∙ e)))
+    (λ w. rw (w .2, w .3) (kept-apart I (G .get-point .result) (here G) h (sym (w .1 .given .1) ∙ e)))
     (c .match .came)
 
 returns-2 : tie.Need-returns-2 Inv-loop2 μ-loop2 Inv-loop μ-loop
 returns-2 c =
     let L = c .before in
     let I = L .loop .inv in
-    (kept-end I (c .loop-test .left) ∙ ap (λ l. made (unique (L .before .before .before .args .t) l)) (whole (L .before .before)), omega (arith, I .few, I .low, I .small))
+    let A = L .before .before .before .args in
+    (kept-end I (c .loop-test .left) ∙ ap (λ l. made (unique (A .t) l)) (all-points (A .points .now) (A .at) (A .n)), omega (arith, I .few, I .low, I .small))
 
 pub unique-spec : {M : Type 1} → statement M
 unique-spec =
@@ -144,11 +140,11 @@ unique-spec =
     μ-loop2
     Inv-loop
     μ-loop
-    at-most-all-requires
     empty-requires
     loop-holds
-    mul-q
-    element-copy-out-q
+    mul-get-point
+    add-get-point
+    get-point-requires
     loop2-holds
     mul-r
     element-copy-out-r
@@ -162,7 +158,7 @@ unique-spec =
     returns
     enum-told
     enum-told-2
-    mul-q-2
+    mul-q
     element-set-from-q
     add-m
     add-i
