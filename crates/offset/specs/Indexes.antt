@@ -19,7 +19,7 @@ use Rattle.room.specs.Rooms.{cellCounts, cellAt, countsAt}
 use Rattle.room.specs.Laws.{corners-cons, corners-none, length-pointsAt, points-stored}
 use Rattle.indexed.specs.declared.Counted.{Counted}
 use Rattle.indexed.specs.declared.Counted.the-variants as C
-use Rattle.indexed.specs.Indexed.{placeIn, Places, joined, placed, indexPoint, indexPoints, withFace, indexFace, indexed}
+use Rattle.indexed.specs.Indexed.{Search, placeIn, Places, joined, placed, indexPoint, indexPoints, withFace, indexFace, indexed}
 use Rattle.indexed.specs.Stored.{flat, Stored}
 use Rattle.solids.specs.Frames.{facesAt, Placing}
 
@@ -29,14 +29,14 @@ joined-few : (l : List Point3) (q : Point3) (b : Bool) → length (joined l q b)
 joined-few l q true = omega (arith, length-append l (q ∷ []))
 joined-few l q false = omega arith
 
-points-few : (t : Precision) (l : List Point3) (a b : Places) → walk (indexPoint t) a l ≡ ok b → (length (b .places) ≡ length (a .places) + length l) × (length (b .points) ≤ length (a .points) + length l)
+points-few : (find : Search) (l : List Point3) (a b : Places) → walk (indexPoint find) a l ≡ ok b → (length (b .places) ≡ length (a .places) + length l) × (length (b .points) ≤ length (a .points) + length l)
 unfolding walk indexPoint
-points-few t [] a b e = (ap (λ x. length (x .places)) (sym (same-ok e)) ∙ omega arith, (let z = ap (λ x. length (x .points)) (same-ok e) in omega arith))
-points-few t (q ∷ l) a b e =
-    let f = then-ok (indexPoint t a q) (λ s. walk (indexPoint t) s l) b e in
-    let g = then-ok (placeIn t q 0 (a .points)) (λ i. ok (placed a q i)) (f .0) (f .1) in
+points-few find [] a b e = (ap (λ x. length (x .places)) (sym (same-ok e)) ∙ omega arith, (let z = ap (λ x. length (x .points)) (same-ok e) in omega arith))
+points-few find (q ∷ l) a b e =
+    let f = then-ok (indexPoint find a q) (λ s. walk (indexPoint find) s l) b e in
+    let g = then-ok (find q (a .points)) (λ i. ok (placed a q i)) (f .0) (f .1) in
     let s = same-ok (g .2) in
-    let r = points-few t l (f .0) b (f .2) in
+    let r = points-few find l (f .0) b (f .2) in
     let u : length (f .0 .places) ≡ length (a .places) + 1 = ap (λ x. length (x .places)) (sym s) ∙ length-append (a .places) (g .0 ∷ []) in
     let v : length (f .0 .points) ≤ length (a .points) + 1 = omega (arith, ap (λ x. length (x .points)) s, joined-few (a .points) q (eqb (g .0) (length (a .points)))) in
     (omega (arith, r .0, u), omega (arith, r .1, v))
@@ -49,15 +49,15 @@ lengths-snoc : (l : List (List ℕ)) (f : List ℕ) → lengths (l ++ (f ∷ [])
 lengths-snoc [] f = refl
 lengths-snoc (g ∷ l) f = ap (λ x. length g ∷ x) (lengths-snoc l f)
 
-faces-few : (t : Precision) (c : Cell) (a b : Solid) → walk (indexFace t) a c ≡ ok b → (lengths (b .faces) ≡ lengths (a .faces) ++ cellCounts c) × (length (b .points) ≤ length (a .points) + corners 0 c)
+faces-few : (find : Search) (c : Cell) (a b : Solid) → walk (indexFace find) a c ≡ ok b → (lengths (b .faces) ≡ lengths (a .faces) ++ cellCounts c) × (length (b .points) ≤ length (a .points) + corners 0 c)
 unfolding walk indexFace cellCounts
-faces-few t [] a b e = (ap (λ x. lengths (x .faces)) (sym (same-ok e)) ∙ sym (append-nil (lengths (a .faces))), (let z = ap (λ x. length (x .points)) (same-ok e) in omega (arith, corners-none)))
-faces-few t (f ∷ c) a b e =
-    let g = then-ok (indexFace t a f) (λ s. walk (indexFace t) s c) b e in
-    let h = then-ok (indexPoints t (a .points) (f .points)) (λ r. ok (withFace a r)) (g .0) (g .1) in
+faces-few find [] a b e = (ap (λ x. lengths (x .faces)) (sym (same-ok e)) ∙ sym (append-nil (lengths (a .faces))), (let z = ap (λ x. length (x .points)) (same-ok e) in omega (arith, corners-none)))
+faces-few find (f ∷ c) a b e =
+    let g = then-ok (indexFace find a f) (λ s. walk (indexFace find) s c) b e in
+    let h = then-ok (indexPoints find (a .points) (f .points)) (λ r. ok (withFace a r)) (g .0) (g .1) in
     let s = same-ok (h .2) in
-    let p = points-few t (f .points) (record { points = a .points; places = [] }) (h .0) (h .1) in
-    let r = faces-few t c (g .0) b (g .2) in
+    let p = points-few find (f .points) (record { points = a .points; places = [] }) (h .0) (h .1) in
+    let r = faces-few find c (g .0) b (g .2) in
     let n : length (h .0 .places) ≡ length (f .points) = p .0 ∙ omega arith in
     let u : lengths (g .0 .faces) ≡ lengths (a .faces) ++ (length (f .points) ∷ []) = ap (λ x. lengths (x .faces)) (sym s) ∙ lengths-snoc (a .faces) (h .0 .places) ∙ ap (λ x. lengths (a .faces) ++ (x ∷ [])) n in
     (r .0 ∙ ap (λ x. x ++ cellCounts c) u ∙ append-assoc (lengths (a .faces)) (length (f .points) ∷ []) (cellCounts c), omega (arith, r .1, p .1, ap (λ x. length (x .points)) s, corners-cons f c))
@@ -124,9 +124,13 @@ unfolding Stored
 stored-not (ok s) p₀ i₀ p i r x h e = absurd (let a = h .0 in let z : _≡_ {A = ℕ} 0 1 = cc in omega arith)
 stored-not (refused y) p₀ i₀ p i r x h e = let a = h .0 in let b : y ≡ x = cc in ap refused b
 
+-- the search of `indexed`: the first near point
+abbrev first : Precision → Search
+first t q l = placeIn t q 0 l
+
 pub indexed-few : (t : Precision) (c : Cell) (s : Solid) → indexed t c ≡ ok s → length (s .points) ≤ corners 0 c
 unfolding indexed
-indexed-few t c s e = omega (arith, faces-few t c (record { points = []; faces = [] }) s e .1)
+indexed-few t c s e = omega (arith, faces-few (first t) c (record { points = []; faces = [] }) s e .1)
 
 pub indexed-points : (p : List Float) (l : List Point3) (m n : ℕ) → m ≡ length l → length l ≤ n → 3 * n ≤ length p → pointsAt (sets p 0 (floatsOf l)) 0 m ≡ l
 indexed-points p l m n e h g = ap (pointsAt (sets p 0 (floatsOf l)) 0) e ∙ points-stored p l (omega arith)
@@ -134,6 +138,6 @@ indexed-points p l m n e h g = ap (pointsAt (sets p 0 (floatsOf l)) 0) e ∙ poi
 pub indexed-faces : (t : Precision) (f : List Float) (at : ℕ) (ns : List ℕ) (s : Solid) (i : List ℕ) → indexed t (cellAt f at ns) ≡ ok s → corners 0 (cellAt f at ns) ≤ length i → facesAt (sets i 0 (flat (s .faces))) 0 ns ≡ s .faces
 unfolding indexed
 indexed-faces t f at ns s i e h =
-    let l : lengths (s .faces) ≡ ns = faces-few t (cellAt f at ns) (record { points = []; faces = [] }) s e .0 ∙ cell-counts f at ns in
+    let l : lengths (s .faces) ≡ ns = faces-few (first t) (cellAt f at ns) (record { points = []; faces = [] }) s e .0 ∙ cell-counts f at ns in
     let w : 0 + length (flat (s .faces)) ≤ length i = omega (arith, flat-total (s .faces), ap total (l ∙ sym (cell-counts f at ns)), cell-total (cellAt f at ns)) in
     ap (facesAt (sets i 0 (flat (s .faces))) 0) (sym l) ∙ ap (λ z. facesAt z 0 (lengths (s .faces))) (sets-eq (flat (s .faces)) i 0 w) ∙ faces-back [] (s .faces) (drop (0 + length (flat (s .faces))) i) 0 refl
