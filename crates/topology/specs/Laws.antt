@@ -18,7 +18,7 @@ use Rattle.room.specs.Rooms.{countsAt}
 use Rattle.solids.specs.Frames.{facesAt, Placing}
 use Rattle.solids.specs.Faces.{placing-le, Along, along-start, along-next, along-room, along-face, along-end}
 use Rattle.topology.specs.Topology.{Corner, cornerOf, cornersOf, count, once, isPoint, isEdge, fits, faceWith, across, joins, rounded}
-use Rattle.topology.specs.Corners.{cornerAt, cornersAt, pairsAt, isPair}
+use Rattle.topology.specs.Corners.{cornerAt, cornersAt, pairsAt, isPair, Tallied}
 
 -- ---- pairs of two slices
 
@@ -100,16 +100,32 @@ corners-done ps ns fs n i h =
     let g : length (cornersAt ps ns fs 0 n) ≤ i = omega (arith, length-cornersAt ps ns fs 0 n) in
     drop-of-length-le (cornersAt ps ns fs 0 n) g
 
+-- the three counts of one pass
+pub record Tallying (ps ns fs : List ℕ) (n f x y alone edge reverse i : ℕ) : Type 0 where
+  pub point : Counting fs ps n f x alone i
+  pub there : Counting ps ns n x y edge i
+  pub back : Counting ps ns n y x reverse i
+
+pub tallying-start : (ps ns fs : List ℕ) (n f x y : ℕ) → Tallying ps ns fs n f x y 0 0 0 0
+tallying-start ps ns fs n f x y = record { point = counting-start fs ps n f x; there = counting-start ps ns n x y; back = counting-start ps ns n y x }
+
+pub tallying-next : {ps ns fs : List ℕ} {n f x y alone edge reverse i : ℕ} (a b c : ℕ) → Tallying ps ns fs n f x y alone edge reverse i → i < n →
+    a ≡ cond (eqb (getD fs i 0) f && eqb (getD ps i 0) x) (alone + 1) alone → b ≡ cond (eqb (getD ps i 0) x && eqb (getD ns i 0) y) (edge + 1) edge →
+    c ≡ cond (eqb (getD ps i 0) y && eqb (getD ns i 0) x) (reverse + 1) reverse → Tallying ps ns fs n f x y a b c (i + 1)
+tallying-next a b c I h p q r = record { point = counting-next (I .point) a h p; there = counting-next (I .there) b h q; back = counting-next (I .back) c h r }
+
+pub tallying-end : {ps ns fs : List ℕ} {n f x y alone edge reverse i : ℕ} → Tallying ps ns fs n f x y alone edge reverse i → n ≤ i → Tallied ps ns fs n f x y alone edge reverse
+tallying-end I h = record { point = counting-end (I .point) h; there = counting-end (I .there) h; back = counting-end (I .back) h }
+
 -- a corner's test, from what was counted
-pub fit-by : (ps ns fs : List ℕ) (m n i : ℕ) (a b c : ℕ) → a ≡ count (isPair (getD fs i 0) (getD ps i 0)) 0 (pairsAt fs ps 0 n) →
-    b ≡ count (isPair (getD ps i 0) (getD ns i 0)) 0 (pairsAt ps ns 0 n) → c ≡ count (isPair (getD ns i 0) (getD ps i 0)) 0 (pairsAt ps ns 0 n) →
+pub fit-by : (ps ns fs : List ℕ) (m n i : ℕ) (a b c : ℕ) → Tallied ps ns fs n (getD fs i 0) (getD ps i 0) (getD ns i 0) a b c →
     ((ltb (getD ps i 0) m && eqb a 1) && eqb b 1) && eqb c 1 ≡ fits m (cornersAt ps ns fs 0 n) (cornerAt ps ns fs i)
 unfolding fits
-fit-by ps ns fs m n i a b c e g h =
-    ap (λ k. ((ltb (getD ps i 0) m && eqb k 1) && eqb b 1) && eqb c 1) (e ∙ point-pairs ps ns fs (getD fs i 0) (getD ps i 0) 0 0 n)
-    ∙ ap (λ k. ((ltb (getD ps i 0) m && once (isPoint (getD fs i 0) (getD ps i 0)) (cornersAt ps ns fs 0 n)) && eqb k 1) && eqb c 1) (g ∙ edge-pairs ps ns fs (getD ps i 0) (getD ns i 0) 0 0 n)
+fit-by ps ns fs m n i a b c s =
+    ap (λ k. ((ltb (getD ps i 0) m && eqb k 1) && eqb b 1) && eqb c 1) (s .point ∙ point-pairs ps ns fs (getD fs i 0) (getD ps i 0) 0 0 n)
+    ∙ ap (λ k. ((ltb (getD ps i 0) m && once (isPoint (getD fs i 0) (getD ps i 0)) (cornersAt ps ns fs 0 n)) && eqb k 1) && eqb c 1) (s .there ∙ edge-pairs ps ns fs (getD ps i 0) (getD ns i 0) 0 0 n)
     ∙ ap (λ k. ((ltb (getD ps i 0) m && once (isPoint (getD fs i 0) (getD ps i 0)) (cornersAt ps ns fs 0 n)) && once (isEdge (getD ps i 0) (getD ns i 0)) (cornersAt ps ns fs 0 n)) && eqb k 1)
-    (h ∙ edge-pairs ps ns fs (getD ns i 0) (getD ps i 0) 0 0 n)
+    (s .back ∙ edge-pairs ps ns fs (getD ns i 0) (getD ps i 0) 0 0 n)
 
 pub fit-next : (g : Corner → Bool) (b c : Bool) (ps ns fs : List ℕ) (n i : ℕ) → i < n → c ≡ g (cornerAt ps ns fs i) →
     all g (b && c) (drop (i + 1) (cornersAt ps ns fs 0 n)) ≡ all g b (drop i (cornersAt ps ns fs 0 n))

@@ -13,8 +13,8 @@ ghost use Rattle.groups.specs.Groups.{joinsOf, Within};
 ghost use Rattle.room.specs.Rooms.{countsAt};
 ghost use Rattle.solids.specs.Sides.{has};
 ghost use Rattle.solids.specs.Frames.{facesAt, Placing};
-ghost use Rattle.topology.specs.Topology.{cornerOf, cornersOf, count, fits, across, joins, rounded, sound};
-ghost use Rattle.topology.specs.Corners.{cornerAt, cornersAt, pairsAt, isPair};
+ghost use Rattle.topology.specs.Topology.{cornerOf, cornersOf, fits, across, joins, rounded, sound};
+ghost use Rattle.topology.specs.Corners.{cornerAt, cornersAt, Tallied};
 
 fn one_more(k: usize, hit: bool) -> usize
     requires { ⌜ k < 18446744073709551615 ⌝ }
@@ -26,18 +26,36 @@ fn one_more(k: usize, hit: bool) -> usize
     k
 }
 
-// How often a of xs stands beside b of ys, among the first c of each.
-fn count_pairs(xs: &[u64], ys: &[u64], c: usize, a: u64, b: u64) -> usize
-    requires { ⌜ (c ≤ length (now xs)) × (c ≤ length (now ys)) ⌝ }
-    ensures { λ r. ⌜ r ≡ count (isPair a b) 0 (pairsAt (now (xs .entry)) (now (ys .entry)) 0 c) ⌝ }
+// How often a point stands in a face, an edge among all, and its reverse.
+struct Counts {
+    alone: usize,
+    edge: usize,
+    reverse: usize,
+}
+
+// The point x of face f, and the edge from x to y, counted among c corners in one pass.
+fn tally(places: &[u64], nexts: &[u64], faces: &[u64], c: usize, f: u64, x: u64, y: u64) -> Counts
+    requires { ⌜ (c ≤ length (now places)) × (c ≤ length (now nexts)) × (c ≤ length (now faces)) ⌝ }
+    ensures { λ r. ⌜ Tallied (now (places .entry)) (now (nexts .entry)) (now (faces .entry)) c f x y (r .alone) (r .edge) (r .reverse) ⌝ }
 {
-    let mut k = 0;
+    let mut alone = 0;
+    let mut edge = 0;
+    let mut reverse = 0;
     let mut i = 0;
     while i < c {
-        k = one_more(k, (xs[i] == a) & (ys[i] == b));
+        let p = places[i];
+        let q = nexts[i];
+        let g = faces[i];
+        alone = one_more(alone, (g == f) & (p == x));
+        edge = one_more(edge, (p == x) & (q == y));
+        reverse = one_more(reverse, (p == y) & (q == x));
         i += 1;
     }
-    k
+    Counts {
+        alone,
+        edge,
+        reverse,
+    }
 }
 
 // Corner i of c: its index is below m, its point stands once in its face, and its edge and the reverse stand once.
@@ -49,10 +67,8 @@ fn is_fit(m: usize, places: &[u64], nexts: &[u64], faces: &[u64], c: usize, i: u
     let y = nexts[i];
     let f = faces[i];
     let known = (x as usize) < m;
-    let alone = count_pairs(faces, places, c, f, x) == 1;
-    let edge = count_pairs(places, nexts, c, x, y) == 1;
-    let reverse = count_pairs(places, nexts, c, y, x) == 1;
-    ((known & alone) & edge) & reverse
+    let s = tally(places, nexts, faces, c, f, x, y);
+    ((known & (s.alone == 1)) & (s.edge == 1)) & (s.reverse == 1)
 }
 
 fn all_fit(m: usize, places: &[u64], nexts: &[u64], faces: &[u64], c: usize) -> bool

@@ -21,14 +21,8 @@ mul-f c = search needs
 shared-slice-read-f : tie.Need-shared-slice-read-f
 shared-slice-read-f c = search needs
 
-count-pairs-requires : tie.Need-count-pairs-requires
-count-pairs-requires c κs = search needs
-
-count-pairs-requires-2 : tie.Need-count-pairs-requires-2
-count-pairs-requires-2 c κs = search needs
-
-count-pairs-requires-3 : tie.Need-count-pairs-requires-3
-count-pairs-requires-3 c κs = search needs
+tally-requires : tie.Need-tally-requires
+tally-requires c κs = search needs
 
 returns : tie.Need-returns
 returns c = search (needs, fit-by)
@@ -43,7 +37,5 @@ is-fit-spec =
     shared-slice-read-y
     mul-f
     shared-slice-read-f
-    count-pairs-requires
-    count-pairs-requires-2
-    count-pairs-requires-3
+    tally-requires
     returns)
