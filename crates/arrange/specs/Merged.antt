@@ -196,6 +196,7 @@ merged-cycles t c s k₀ k e small g h =
     let z = merge-below t c s e in
     let b = drop (0 + length (flat (s .faces))) k₀ in
     let w : [] ++ (flat (s .faces) ++ b) ≡ k = sym (g ∙ sets-eq (flat (s .faces)) k₀ 0 (omega arith)) in
-    let q = small-faces (s .faces) (subst (All (λ k. k ≤ 128)) (sym (z .1)) (small-counts c small)) in
-    (subst (λ m. Cycles (length (s .points)) m 0 (cellCounts c)) w (subst (Cycles (length (s .points)) ([] ++ (flat (s .faces) ++ b)) 0) (z .1) (cycles-back (length (s .points)) [] (s .faces) b 0 refl (z .0) q)),
-     ap (λ m. facesAt m 0 (cellCounts c)) (sym w) ∙ ap (facesAt ([] ++ (flat (s .faces) ++ b)) 0) (sym (z .1)) ∙ faces-back [] (s .faces) b 0 refl)
+    let q = small-faces (s .faces) (subst (All (λ k. k ≤ 128)) (sym (z .1)) (small-counts c small)) in (
+      subst (λ m. Cycles (length (s .points)) m 0 (cellCounts c)) w (subst (Cycles (length (s .points)) ([] ++ (flat (s .faces) ++ b)) 0) (z .1) (cycles-back (length (s .points)) [] (s .faces) b 0 refl (z .0) q)),
+      ap (λ m. facesAt m 0 (cellCounts c)) (sym w) ∙ ap (facesAt ([] ++ (flat (s .faces) ++ b)) 0) (sym (z .1)) ∙ faces-back [] (s .faces) b 0 refl,
+    )
