@@ -22,7 +22,7 @@ same-length : tie.Need-same-length
 same-length c = search needs
 
 returns : tie.Need-returns
-returns c = search (needs, triangle-stored)
+returns c = triangle-stored _ _ _ _ _ _ (c .before .before .before .before .before .before .before .before .before .before .put-count .ensures) (c .before .before .before .before .before .before .put-count2 .ensures) (c .before .before .put-count3 .ensures)
 
 pub put-triangle-spec : {M : Type 1} → statement M
 put-triangle-spec =
