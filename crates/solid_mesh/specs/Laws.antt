@@ -1,6 +1,6 @@
 -- What the mesh's call hands back, in the words of the code.
 use mathlib.Core.Path.{_≡_, refl, sym, ap, _∙_, subst}
-use mathlib.Core.Bool.{Bool, true, false, not, _||_}
+use mathlib.Core.Bool.{Bool, true, false, not}
 use mathlib.Core.List.{List, [], _∷_, _++_, append-assoc, append-nil, map}
 use Prim.Native.Nat.{ℕ, _+_, _-_, _*_, _/_, _≤_, _<_}
 use native.Mathlib.Omega.{arith}
@@ -38,7 +38,7 @@ use Rattle.mesh.specs.declared.Meshed.{Meshed}
 use Rattle.mesh.specs.declared.Triples.{Triples}
 use Rattle.mesh.specs.Mesh.{meshOf, meshOn, fairFacet, facet, triples, meshed, blank}
 use Rattle.mesh.specs.Theorems.{facet-mesh}
-use Rattle.solid_mesh.specs.Mesh.{triangleAnswer, meshAnswer, faceOf, isSmall, meshBytes, meshFacet, meshCall, trianglesIn}
+use Rattle.solid_mesh.specs.Mesh.{triangleAnswer, meshAnswer, faceOf, Drawn, isSmall, meshBytes, meshFacet, meshCall, trianglesIn}
 
 -- ---- triangles
 
@@ -79,10 +79,6 @@ length-triples t h = omega (arith, length-row triangleAnswer 12 length-triangle 
 
 -- ---- what is handed back
 
-pub record Drawn (o : Outcome (List ℕ)) (r : ℕ) (s s′ : List ℕ) : Type 0 where
-  pub number : r ≡ told o
-  pub bytes : s′ ≡ written o s
-
 -- the outcome that the code's answer tells
 unfoldable pub drawing : Meshed → Outcome (List ℕ)
 drawing m = heard (m .verdict) (row triangleAnswer (trianglesIn (m .triples)))
@@ -115,7 +111,7 @@ corners-taken s ps n e h =
     let k : length (floatsOf ps) ≡ 3 * n = omega (arith, length-floatsOf ps, e) in
     ap (λ x. take (3 * n) (sets s 0 x)) (flat-floats ps) ∙ ap (take (3 * n)) (sets-eq (floatsOf ps) s 0 (omega (arith, k))) ∙ take-at (floatsOf ps) _ (3 * n) k
 
-pub corners-lent : (s s₀ : List Float) (l : List ℕ) (at n : ℕ) → s ≡ sets s₀ 0 (flat (pointsFrom l at n)) → n ≤ 128 → 384 ≤ length s₀ → length (take (3 * n) s) ≡ 3 * n
+pub corners-lent : (s s₀ : List Float) (l : List ℕ) (at n : ℕ) → s ≡ sets s₀ 0 (flat (pointsFrom l at n)) → n ≤ 128 → length s₀ ≡ 384 → length (take (3 * n) s) ≡ 3 * n
 corners-lent s s₀ l at n e h k =
     let m : length s ≡ length s₀ = ap length e ∙ length-sets s₀ 0 (flat (pointsFrom l at n)) in
     length-take-le (3 * n) s (omega (arith, m))
@@ -173,47 +169,40 @@ module _ (l : List ℕ) (y : FacetLayout) (s s′ : List Float) (fit : 3 * y .po
 
 -- ---- the whole call
 
-or-false : (a b : Bool) → (a || b) ≡ false → (a ≡ false) × (b ≡ false)
-or-false true b e = absurd (let z : _≡_ {A = ℕ} 0 1 = cc in omega arith)
-or-false false b e = (refl, e)
+pub not-small : (b : Bool) (size n : ℕ) → b ≡ isSmall size n → b ≡ false → 64 * n ≤ size
+not-small b size n h t = let k = ltb-false (size / 64) n (sym h ∙ t) in omega (arith, k)
 
-pub not-small : (b : Bool) (work size n : ℕ) → b ≡ isSmall work size n → b ≡ false → (384 ≤ work) × (64 * n ≤ size)
-not-small b work size n h t =
-    let p = or-false (ltb work 384) (ltb (size / 64) n) (sym h ∙ t) in
-    let k = ltb-false (size / 64) n (p .1) in
-    (ltb-false work 384 (p .0), omega (arith, k))
-
-module _ (work size : ℕ) (l : List ℕ) (laid : FacetLaid) (e : facetLaid laid ≡ facetLayout l) where
-  call-is : meshCall work size l ≡ then (facetLaid laid) (λ y. meshFacet work size (facetAt l y))
+module _ (size : ℕ) (l : List ℕ) (laid : FacetLaid) (e : facetLaid laid ≡ facetLayout l) where
+  call-is : meshCall size l ≡ then (facetLaid laid) (λ y. meshFacet size (facetAt l y))
   unfolding meshCall readFacet
-  call-is = by (facetLayout l) ∙ ap (λ o. then o (λ y. meshFacet work size (facetAt l y))) (sym e)
+  call-is = by (facetLayout l) ∙ ap (λ o. then o (λ y. meshFacet size (facetAt l y))) (sym e)
     where
-      by : (o : Outcome FacetLayout) → then (then o (λ y. ok (facetAt l y))) (meshFacet work size) ≡ then o (λ y. meshFacet work size (facetAt l y))
+      by : (o : Outcome FacetLayout) → then (then o (λ y. ok (facetAt l y))) (meshFacet size) ≡ then o (λ y. meshFacet size (facetAt l y))
       by (ok y) = refl
       by (refused r) = refl
 
-  pub not-read : (r : Refusal) (n : ℕ) (s : List ℕ) → laid ≡ F.Refused r → n ≡ r .number → Drawn (meshCall work size l) n s s
+  pub not-read : (r : Refusal) (n : ℕ) (s : List ℕ) → laid ≡ F.Refused r → n ≡ r .number → Drawn (meshCall size l) n s s
   unfolding facetLaid
-  not-read r n s p q = drawn-not (meshCall work size l) n r s (call-is ∙ ap (λ k. then (facetLaid k) (λ y. meshFacet work size (facetAt l y))) p) q
+  not-read r n s p q = drawn-not (meshCall size l) n r s (call-is ∙ ap (λ k. then (facetLaid k) (λ y. meshFacet size (facetAt l y))) p) q
 
   module _ (y : FacetLayout) (made : laid ≡ F.Made y) where
-    call-on : meshCall work size l ≡ meshFacet work size (facetAt l y)
+    call-on : meshCall size l ≡ meshFacet size (facetAt l y)
     unfolding facetLaid
-    call-on = call-is ∙ ap (λ k. then (facetLaid k) (λ z. meshFacet work size (facetAt l z))) made
+    call-on = call-is ∙ ap (λ k. then (facetLaid k) (λ z. meshFacet size (facetAt l z))) made
 
     many : length (facetAt l y .points) ≡ y .points
     unfolding facetAt pointsFrom
     many = length-from l (y .start) (y .points)
 
-    pub small : (b : Bool) (s : List ℕ) → b ≡ isSmall work size (y .points) → b ≡ true → Drawn (meshCall work size l) 12 s s
+    pub small : (b : Bool) (s : List ℕ) → b ≡ isSmall size (y .points) → b ≡ true → Drawn (meshCall size l) 12 s s
     unfolding meshFacet
-    small b s h t = drawn-not (meshCall work size l) 12 (refusalOf 12) s (call-on ∙ ap (λ n. unless (isSmall work size n) 12 (meshBytes (facetAt l y))) many ∙ ap (λ c. unless c 12 (meshBytes (facetAt l y))) (sym h ∙ t)) refl
+    small b s h t = drawn-not (meshCall size l) 12 (refusalOf 12) s (call-on ∙ ap (λ n. unless (isSmall size n) 12 (meshBytes (facetAt l y))) many ∙ ap (λ c. unless c 12 (meshBytes (facetAt l y))) (sym h ∙ t)) refl
 
-    pub roomy : (b : Bool) (r : ℕ) (s s′ : List ℕ) → b ≡ isSmall work size (y .points) → b ≡ false → Drawn (meshBytes (facetAt l y)) r s s′ → Drawn (meshCall work size l) r s s′
+    pub roomy : (b : Bool) (r : ℕ) (s s′ : List ℕ) → b ≡ isSmall size (y .points) → b ≡ false → Drawn (meshBytes (facetAt l y)) r s s′ → Drawn (meshCall size l) r s s′
     unfolding meshFacet
-    roomy b r s s′ h t d = subst (λ o. Drawn o r s s′) (sym (call-on ∙ ap (λ n. unless (isSmall work size n) 12 (meshBytes (facetAt l y))) many ∙ ap (λ c. unless c 12 (meshBytes (facetAt l y))) (sym h ∙ t))) d
+    roomy b r s s′ h t d = subst (λ o. Drawn o r s s′) (sym (call-on ∙ ap (λ n. unless (isSmall size n) 12 (meshBytes (facetAt l y))) many ∙ ap (λ c. unless c 12 (meshBytes (facetAt l y))) (sym h ∙ t))) d
 
     -- 12 above 128 corners is the mesh's own
-    pub many-corners : (b : Bool) (s : List ℕ) → b ≡ isSmall work size (y .points) → b ≡ false → 128 < y .points → Drawn (meshCall work size l) 12 s s
+    pub many-corners : (b : Bool) (s : List ℕ) → b ≡ isSmall size (y .points) → b ≡ false → 128 < y .points → Drawn (meshCall size l) 12 s s
     unfolding meshBytes meshOf facetAt
     many-corners b s h t k = roomy b 12 s s h t (drawn-not _ 12 (refusalOf 12) s (ap (λ c. then (unless c 12 (unless (not (fairFacet (y .precision) (faceOf (facetAt l y)))) 2 (meshOn (y .precision) (faceOf (facetAt l y))))) (λ ts. ok (meshAnswer ts))) (lt-ltb 128 (length (facetAt l y .points)) (omega (arith, many)))) refl)

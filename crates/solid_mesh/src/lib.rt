@@ -7,14 +7,12 @@ use mesh::Triples;
 use refusal::Verdict;
 ghost use mathlib.Core.Path.{_≡_};
 ghost use Prim.Native.Nat.{_+_, _*_, _≤_};
-ghost use lib.ListN.{length, replicate};
+ghost use lib.ListN.{length};
 ghost use lib.Seq.{sets};
-ghost use lib.Ieee.{ofBits, binary64};
 ghost use Rattle.job.specs.Read.{facetAt};
-ghost use Rattle.answer.specs.Told.{told, written};
 ghost use Rattle.writer.specs.Rows.{row};
-ghost use Rattle.solid_mesh.specs.Mesh.{triangleAnswer, trianglesIn, isSmall, meshBytes, meshCall};
-ghost use Rattle.solid_mesh.specs.Laws.{Drawn, drawing};
+ghost use Rattle.solid_mesh.specs.Mesh.{triangleAnswer, trianglesIn, Drawn, isSmall, meshBytes, meshCall};
+ghost use Rattle.solid_mesh.specs.Laws.{drawing};
 
 fn put_triangle(out: &mut [u8], at: usize, w: Triangle)
     requires { ⌜ at + 12 ≤ length (now out) ⌝ }
@@ -57,50 +55,40 @@ fn put_meshed(out: &mut [u8], m: Meshed) -> u64
     }
 }
 
-// The mesh of a facet whose corners are few enough for the slices.
-fn draw(facet: &[u8], y: FacetLayout, corners: &mut [f64], answer: &mut [u8]) -> u64
-    requires { ⌜ (y .points ≤ 128) × (384 ≤ length (now corners)) × (64 * y .points ≤ length (now answer)) ⌝ }
+// The mesh of a facet of at most 128 corners.
+fn draw(facet: &[u8], y: FacetLayout, answer: &mut [u8]) -> u64
+    requires { ⌜ (y .points ≤ 128) × (64 * y .points ≤ length (now answer)) ⌝ }
     ensures { λ r. ⌜ Drawn (meshBytes (facetAt (now (facet .entry)) y)) r (now (answer .entry)) (now (answer .exit)) ⌝ }
 {
     let n = y.points;
-    pack::unpack_points(facet, y.start, n, corners);
+    let mut corners = [0.0; 384];
+    pack::unpack_points(facet, y.start, n, &mut corners);
     let m = mesh::mesh(y.precision, y.plane, &corners[..3 * n]);
     put_meshed(answer, m)
 }
 
-fn is_small(work: usize, size: usize, n: usize) -> bool
-    ensures { λ r. ⌜ r ≡ isSmall work size n ⌝ }
+fn is_small(size: usize, n: usize) -> bool
+    ensures { λ r. ⌜ r ≡ isSmall size n ⌝ }
 {
-    (work < 384) | (size / 64 < n)
+    size / 64 < n
 }
 
-fn served(facet: &[u8], corners: &mut [f64], answer: &mut [u8]) -> u64
-    ensures { λ r. ⌜ Drawn (meshCall (length (now (corners .entry))) (length (now (answer .entry))) (now (facet .entry))) r (now (answer .entry)) (now (answer .exit)) ⌝ }
+// A facet's bytes (tolerances, plane, corners) to triples of corner places. Returns 01's number and, times 256, the bytes written.
+#[no_mangle]
+pub extern "C" fn solid_mesh(facet: &[u8], answer: &mut [u8]) -> u64
+    ensures { λ r. ⌜ Drawn (meshCall (length (now (answer .entry))) (now (facet .entry))) r (now (answer .entry)) (now (answer .exit)) ⌝ }
 {
     let laid = job::read_facet(facet);
     match laid {
         FacetLaid::Refused(r) => r.number,
         FacetLaid::Made(y) => {
-            if is_small(corners.len(), answer.len(), y.points) {
+            if is_small(answer.len(), y.points) {
                 return 12;
             }
             if 128 < y.points {
                 return 12;
             }
-            draw(facet, y, corners, answer)
+            draw(facet, y, answer)
         }
     }
-}
-
-// A facet's bytes (tolerances, plane, corners) to triples of corner places. Returns 01's number and, times 256, the bytes written.
-// `corners` is work memory: 384 numbers, zero after every call.
-#[no_mangle]
-pub extern "C" fn solid_mesh(facet: &[u8], corners: &mut [f64], answer: &mut [u8]) -> u64
-    ensures { λ r. ⌜ r ≡ told (meshCall (length (now (corners .entry))) (length (now (answer .entry))) (now (facet .entry))) ⌝ }
-    ensures { λ _. ⌜ now (answer .exit) ≡ written (meshCall (length (now (corners .entry))) (length (now (answer .entry))) (now (facet .entry))) (now (answer .entry)) ⌝ }
-    ensures { λ _. ⌜ now (corners .exit) ≡ replicate (length (now (corners .entry))) (ofBits binary64 0) ⌝ }
-{
-    let r = served(facet, corners, answer);
-    room::zero(corners);
-    r
 }
