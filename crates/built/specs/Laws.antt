@@ -1,11 +1,11 @@
 -- Laws of the building of a solid, in the words of the code.
 use mathlib.Core.Path.{_≡_, refl, sym, ap, _∙_, subst}
 use mathlib.Core.Bool.{false}
-use mathlib.Core.List.{List}
+use mathlib.Core.List.{List, map}
 use Prim.Native.Nat.{ℕ, _*_, _≤_}
 use native.Mathlib.Omega.{arith}
-use lib.ListN.{length}
-use lib.Seq.{sets}
+use lib.ListN.{length, replicate, length-replicate}
+use lib.Seq.{sets, length-sets}
 use lib.Ieee.{Float}
 use Rattle.refusal.specs.declared.Refusal.{Refusal}
 use Rattle.refusal.specs.declared.Verdict.{Verdict}
@@ -15,6 +15,7 @@ use Rattle.refusal.specs.Laws.{stop, go}
 use Rattle.space.specs.declared.Precision.{Precision}
 use Rattle.space.specs.Shapes.{Cell, Solid, corners}
 use Rattle.polygon.specs.Memory.{floatsOf, pointsAt}
+use Rattle.polygon.specs.Members.{then-ok}
 use Rattle.room.specs.Rooms.{cellAt, countsAt}
 use Rattle.indexed.specs.declared.Counted.{Counted}
 use Rattle.indexed.specs.declared.Counted.the-variants as C
@@ -24,6 +25,7 @@ use Rattle.indexed.specs.Laws.{counted-made, counted-refused, stored-points, st
 use Rattle.offset.specs.Indexes.{placing-fits, stored-made, stored-not, indexed-few, indexed-points, indexed-faces}
 use Rattle.solids.specs.Frames.{facesAt, Placing}
 use Rattle.solid_check.specs.Check.{solidAt, check}
+use Rattle.solid_check.specs.Laws.{lengths-are}
 use Rattle.built.specs.Built.{built}
 
 -- ---- an outcome by its verdict
@@ -86,3 +88,24 @@ module _ (t : Precision) (s : List Float) (at : ℕ) (counts : List ℕ) (n : �
         let f = not-ok (check false t (g .0)) x (h ∙ ap (λ x. verdictOf (check false t x)) (indexed-is g)) in
         let z : built t cell ≡ refused x = go (indexed t cell) _ (g .0) (g .1) ∙ stop (check false t (g .0)) _ x f in
         subst (λ o. Stored o p₀ i₀ p i q) (sym z) (counted-refused q x w, stored-points (indexed t cell) p₀ i₀ p i r I, stored-places (indexed t cell) p₀ i₀ p i r I)
+
+-- ---- the faces of a built solid are those of its cell
+
+pub built-indexed : (t : Precision) (c : Cell) (s : Solid) → built t c ≡ ok s → indexed t c ≡ ok s
+unfolding built
+built-indexed t c s e =
+    let a = then-ok (indexed t c) (λ s. then (check false t s) (λ _. ok s)) s e in
+    let b = then-ok (check false t (a .0)) (λ _. ok (a .0)) s (a .2) in
+    a .1 ∙ b .2
+
+lengths-by : (t : Precision) (s : List Float) (at : ℕ) (ns : List ℕ) (b : Solid) (i : List ℕ) → indexed t (cellAt s at ns) ≡ ok b → corners 0 (cellAt s at ns) ≤ length i → map length (b .faces) ≡ ns
+lengths-by t s at ns b i g k =
+    let m : corners 0 (cellAt s at ns) ≤ length (sets i 0 (flat (b .faces))) = omega (arith, k, length-sets i 0 (flat (b .faces))) in
+    ap (map length) (sym (indexed-faces t s at ns b i g k)) ∙ lengths-are (sets i 0 (flat (b .faces))) 0 ns (placing-fits s at ns (length (sets i 0 (flat (b .faces)))) m)
+
+-- its numbers of corners, and no more points than corners
+pub built-lengths : (t : Precision) (s : List Float) (at : ℕ) (ns : List ℕ) (b : Solid) → built t (cellAt s at ns) ≡ ok b → (map length (b .faces) ≡ ns) × (length (b .points) ≤ corners 0 (cellAt s at ns))
+built-lengths t s at ns b e =
+    let n = corners 0 (cellAt s at ns) in
+    let g = built-indexed t (cellAt s at ns) b e in
+    (lengths-by t s at ns b (replicate n 0) g (omega (arith, length-replicate {A = ℕ} n 0)), indexed-few t (cellAt s at ns) b g)
