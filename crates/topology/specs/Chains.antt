@@ -42,7 +42,7 @@ pub and-true : (a b : Bool) → a && b ≡ true → (a ≡ true) × (b ≡ true)
 and-true true b e = (refl, e)
 and-true false b e = not-both refl e
 
-all-in : {A : Type 0} (g : A → Bool) (l : List A) (b : Bool) → all g b l ≡ true → (b ≡ true) × ((x : A) → In x l → g x ≡ true)
+pub all-in : {A : Type 0} (g : A → Bool) (l : List A) (b : Bool) → all g b l ≡ true → (b ≡ true) × ((x : A) → In x l → g x ≡ true)
 unfolding all In
 all-in g [] b e = (e, λ x i. absurd i)
 all-in g (y ∷ l) b e =
@@ -78,7 +78,7 @@ module _ {A : Type 0} (t : A → Bool) where
   count-in x (y ∷ l) (inl p) e = omega (arith, count-yes y l (ap t (sym p) ∙ e))
   count-in x (y ∷ l) (inr i) e = omega (arith, count-in x l i e, count-head y l)
 
-  count-find : (l : List A) → 1 ≤ count t 0 l → (x : A) × In x l × (t x ≡ true)
+  pub count-find : (l : List A) → 1 ≤ count t 0 l → (x : A) × In x l × (t x ≡ true)
   unfolding count In
   count-find [] h = absurd (omega arith)
   count-find (y ∷ l) h = by (λ k. count-find l k) (t y) refl

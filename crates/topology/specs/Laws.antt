@@ -17,8 +17,8 @@ use Rattle.groups.specs.Chain.{upFrom}
 use Rattle.room.specs.Rooms.{countsAt}
 use Rattle.solids.specs.Frames.{facesAt, Placing}
 use Rattle.solids.specs.Faces.{placing-le, Along, along-start, along-next, along-room, along-face, along-end}
-use Rattle.topology.specs.Topology.{Corner, cornerOf, cornersOf, count, once, isPoint, isEdge, fits, faceWith, across, joins, rounded}
-use Rattle.topology.specs.Corners.{cornerAt, cornersAt, pairsAt, isPair, Tallied}
+use Rattle.topology.specs.Topology.{Corner, cornerOf, cornersOf, count, once, isPoint, isEdge, faceWith, across, joins, rounded}
+use Rattle.topology.specs.Corners.{cornerAt, cornersAt, pairsAt, isPair, paired, Tallied}
 
 -- ---- pairs of two slices
 
@@ -100,31 +100,29 @@ corners-done ps ns fs n i h =
     let g : length (cornersAt ps ns fs 0 n) ≤ i = omega (arith, length-cornersAt ps ns fs 0 n) in
     drop-of-length-le (cornersAt ps ns fs 0 n) g
 
--- the three counts of one pass
-pub record Tallying (ps ns fs : List ℕ) (n f x y alone edge reverse i : ℕ) : Type 0 where
+-- the two counts of one pass
+pub record Tallying (ps ns fs : List ℕ) (n f x y alone reverse i : ℕ) : Type 0 where
   pub point : Counting fs ps n f x alone i
-  pub there : Counting ps ns n x y edge i
   pub back : Counting ps ns n y x reverse i
 
-pub tallying-start : (ps ns fs : List ℕ) (n f x y : ℕ) → Tallying ps ns fs n f x y 0 0 0 0
-tallying-start ps ns fs n f x y = record { point = counting-start fs ps n f x; there = counting-start ps ns n x y; back = counting-start ps ns n y x }
+pub tallying-start : (ps ns fs : List ℕ) (n f x y : ℕ) → Tallying ps ns fs n f x y 0 0 0
+tallying-start ps ns fs n f x y = record { point = counting-start fs ps n f x; back = counting-start ps ns n y x }
 
-pub tallying-next : {ps ns fs : List ℕ} {n f x y alone edge reverse i : ℕ} (a b c : ℕ) → Tallying ps ns fs n f x y alone edge reverse i → i < n →
-    a ≡ cond (eqb (getD fs i 0) f && eqb (getD ps i 0) x) (alone + 1) alone → b ≡ cond (eqb (getD ps i 0) x && eqb (getD ns i 0) y) (edge + 1) edge →
-    c ≡ cond (eqb (getD ps i 0) y && eqb (getD ns i 0) x) (reverse + 1) reverse → Tallying ps ns fs n f x y a b c (i + 1)
-tallying-next a b c I h p q r = record { point = counting-next (I .point) a h p; there = counting-next (I .there) b h q; back = counting-next (I .back) c h r }
+pub tallying-next : {ps ns fs : List ℕ} {n f x y alone reverse i : ℕ} (a c : ℕ) → Tallying ps ns fs n f x y alone reverse i → i < n →
+    a ≡ cond (eqb (getD fs i 0) f && eqb (getD ps i 0) x) (alone + 1) alone →
+    c ≡ cond (eqb (getD ps i 0) y && eqb (getD ns i 0) x) (reverse + 1) reverse → Tallying ps ns fs n f x y a c (i + 1)
+tallying-next a c I h p r = record { point = counting-next (I .point) a h p; back = counting-next (I .back) c h r }
 
-pub tallying-end : {ps ns fs : List ℕ} {n f x y alone edge reverse i : ℕ} → Tallying ps ns fs n f x y alone edge reverse i → n ≤ i → Tallied ps ns fs n f x y alone edge reverse
-tallying-end I h = record { point = counting-end (I .point) h; there = counting-end (I .there) h; back = counting-end (I .back) h }
+pub tallying-end : {ps ns fs : List ℕ} {n f x y alone reverse i : ℕ} → Tallying ps ns fs n f x y alone reverse i → n ≤ i → Tallied ps ns fs n f x y alone reverse
+tallying-end I h = record { point = counting-end (I .point) h; back = counting-end (I .back) h }
 
 -- a corner's test, from what was counted
-pub fit-by : (ps ns fs : List ℕ) (m n i : ℕ) (a b c : ℕ) → Tallied ps ns fs n (getD fs i 0) (getD ps i 0) (getD ns i 0) a b c →
-    ((ltb (getD ps i 0) m && eqb a 1) && eqb b 1) && eqb c 1 ≡ fits m (cornersAt ps ns fs 0 n) (cornerAt ps ns fs i)
-unfolding fits
-fit-by ps ns fs m n i a b c s =
-    ap (λ k. ((ltb (getD ps i 0) m && eqb k 1) && eqb b 1) && eqb c 1) (s .point ∙ point-pairs ps ns fs (getD fs i 0) (getD ps i 0) 0 0 n)
-    ∙ ap (λ k. ((ltb (getD ps i 0) m && once (isPoint (getD fs i 0) (getD ps i 0)) (cornersAt ps ns fs 0 n)) && eqb k 1) && eqb c 1) (s .there ∙ edge-pairs ps ns fs (getD ps i 0) (getD ns i 0) 0 0 n)
-    ∙ ap (λ k. ((ltb (getD ps i 0) m && once (isPoint (getD fs i 0) (getD ps i 0)) (cornersAt ps ns fs 0 n)) && once (isEdge (getD ps i 0) (getD ns i 0)) (cornersAt ps ns fs 0 n)) && eqb k 1)
+pub paired-by : (ps ns fs : List ℕ) (m n i : ℕ) (a c : ℕ) → Tallied ps ns fs n (getD fs i 0) (getD ps i 0) (getD ns i 0) a c →
+    (ltb (getD ps i 0) m && eqb a 1) && eqb c 1 ≡ paired m (cornersAt ps ns fs 0 n) (cornerAt ps ns fs i)
+unfolding paired
+paired-by ps ns fs m n i a c s =
+    ap (λ k. (ltb (getD ps i 0) m && eqb k 1) && eqb c 1) (s .point ∙ point-pairs ps ns fs (getD fs i 0) (getD ps i 0) 0 0 n)
+    ∙ ap (λ k. (ltb (getD ps i 0) m && once (isPoint (getD fs i 0) (getD ps i 0)) (cornersAt ps ns fs 0 n)) && eqb k 1)
     (s .back ∙ edge-pairs ps ns fs (getD ns i 0) (getD ps i 0) 0 0 n)
 
 pub fit-next : (g : Corner → Bool) (b c : Bool) (ps ns fs : List ℕ) (n i : ℕ) → i < n → c ≡ g (cornerAt ps ns fs i) →
@@ -169,25 +167,53 @@ points-are ps ns fs n h = points-from ps ns fs 0 n (omega arith)
 
 -- ---- the face across
 
--- of n corners, q are searched for the edge from a to b
-pub record Finding (ps ns fs : List ℕ) (n a b f₀ f q : ℕ) : Type 0 where
-  pub upto : q ≤ n
-  pub rest : faceWith a b f (drop q (cornersAt ps ns fs 0 n)) ≡ faceWith a b f₀ (cornersAt ps ns fs 0 n)
+corners-snoc : (ps ns fs : List ℕ) (i n : ℕ) → cornersAt ps ns fs i (suc n) ≡ cornersAt ps ns fs i n ++ (cornerAt ps ns fs (i + n) ∷ [])
+unfolding cornersAt
+corners-snoc ps ns fs i zero = ap (λ k. cornerAt ps ns fs k ∷ []) (omega arith)
+corners-snoc ps ns fs i (suc n) =
+    ap (λ l. cornerAt ps ns fs i ∷ l) (corners-snoc ps ns fs (i + 1) n) ∙ ap (λ k. cornerAt ps ns fs i ∷ (cornersAt ps ns fs (i + 1) n ++ (cornerAt ps ns fs k ∷ []))) (omega arith)
 
-pub finding-start : (ps ns fs : List ℕ) (n a b f : ℕ) → Finding ps ns fs n a b f f 0
+face-append : (a b f : ℕ) (l m : List Corner) → faceWith a b f (l ++ m) ≡ faceWith a b (faceWith a b f l) m
+unfolding faceWith
+face-append a b f [] m = refl
+face-append a b f (c ∷ l) m = face-append a b (cond (isEdge a b c) (c .face) f) l m
+
+-- the corner q decides, or those before it
+face-last : (ps ns fs : List ℕ) (a b f q : ℕ) →
+    faceWith a b f (cornersAt ps ns fs 0 (suc q)) ≡ cond (eqb (getD ps q 0) a && eqb (getD ns q 0) b) (getD fs q 0) (faceWith a b f (cornersAt ps ns fs 0 q))
+unfolding faceWith
+face-last ps ns fs a b f q =
+    ap (faceWith a b f) (corners-snoc ps ns fs 0 q) ∙ face-append a b f (cornersAt ps ns fs 0 q) (cornerAt ps ns fs (0 + q) ∷ [])
+    ∙ ap (λ j. cond (eqb (getD ps j 0) a && eqb (getD ns j 0) b) (getD fs j 0) (faceWith a b f (cornersAt ps ns fs 0 q))) {x = 0 + q} {y = q} (omega arith)
+
+-- of n corners, none from q on has the edge from a to b
+pub record Finding (ps ns fs : List ℕ) (n a b f q : ℕ) : Type 0 where
+  pub upto : q ≤ n
+  pub rest : faceWith a b f (cornersAt ps ns fs 0 q) ≡ faceWith a b f (cornersAt ps ns fs 0 n)
+
+pub finding-start : (ps ns fs : List ℕ) (n a b f : ℕ) → Finding ps ns fs n a b f n
 finding-start ps ns fs n a b f = record { upto = omega arith; rest = refl }
 
-module _ {ps ns fs : List ℕ} {n a b f₀ f q : ℕ} (I : Finding ps ns fs n a b f₀ f q) where
-  pub finding-next : (f′ : ℕ) → q < n → f′ ≡ cond (eqb (getD ps q 0) a && eqb (getD ns q 0) b) (getD fs q 0) f → Finding ps ns fs n a b f₀ f′ (q + 1)
-  unfolding faceWith
-  finding-next f′ h e = record {
-    upto = omega arith;
-    rest = ap (λ g. faceWith a b g (drop (q + 1) (cornersAt ps ns fs 0 n))) e ∙ ap (faceWith a b f) (sym (corner-next ps ns fs n q h)) ∙ I .rest;
+module _ {ps ns fs : List ℕ} {n a b f q : ℕ} (I : Finding ps ns fs n a b f q) where
+  one-before : 0 < q → cond (eqb (getD ps (q - 1) 0) a && eqb (getD ns (q - 1) 0) b) (getD fs (q - 1) 0) (faceWith a b f (cornersAt ps ns fs 0 (q - 1))) ≡ faceWith a b f (cornersAt ps ns fs 0 n)
+  one-before h =
+      let z : suc (q - 1) ≡ q = omega arith in
+      sym (face-last ps ns fs a b f (q - 1)) ∙ ap (λ k. faceWith a b f (cornersAt ps ns fs 0 k)) z ∙ I .rest
+
+  pub finding-next : 0 < q → eqb (getD ps (q - 1) 0) a && eqb (getD ns (q - 1) 0) b ≡ false → Finding ps ns fs n a b f (q - 1)
+  finding-next h e = record {
+    upto = omega (arith, I .upto);
+    rest = sym (ap (λ z. cond z (getD fs (q - 1) 0) (faceWith a b f (cornersAt ps ns fs 0 (q - 1)))) e) ∙ one-before h;
   }
 
-  pub finding-end : n ≤ q → f ≡ faceWith a b f₀ (cornersAt ps ns fs 0 n)
-  unfolding faceWith
-  finding-end h = sym (ap (faceWith a b f) (corners-done ps ns fs n q h)) ∙ I .rest
+  pub finding-hit : 0 < q → eqb (getD ps (q - 1) 0) a && eqb (getD ns (q - 1) 0) b ≡ true → getD fs (q - 1) 0 ≡ faceWith a b f (cornersAt ps ns fs 0 n)
+  finding-hit h e = sym (ap (λ z. cond z (getD fs (q - 1) 0) (faceWith a b f (cornersAt ps ns fs 0 (q - 1)))) e) ∙ one-before h
+
+  pub finding-end : q ≤ 0 → f ≡ faceWith a b f (cornersAt ps ns fs 0 n)
+  unfolding faceWith cornersAt
+  finding-end h =
+      let z : q ≡ 0 = omega arith in
+      sym (ap (λ k. faceWith a b f (cornersAt ps ns fs 0 k)) z) ∙ I .rest
 
 -- ---- the joins
 
@@ -245,12 +271,6 @@ corners-before ps ns fs i (suc n) j x y h =
     let b : getD (set fs j y) i 0 ≡ getD fs i 0 = getD-set-other fs j i y 0 (λ e. omega (arith, e)) in
     let c : cornerAt ps (set ns j x) (set fs j y) i ≡ cornerAt ps ns fs i = λ k. record { face = b k; point = getD ps i 0; next = a k } in
     ap₂ (λ u v. u ∷ v) c (corners-before ps ns fs (i + 1) n j x y (omega arith))
-
-corners-snoc : (ps ns fs : List ℕ) (i n : ℕ) → cornersAt ps ns fs i (suc n) ≡ cornersAt ps ns fs i n ++ (cornerAt ps ns fs (i + n) ∷ [])
-unfolding cornersAt
-corners-snoc ps ns fs i zero = ap (λ k. cornerAt ps ns fs k ∷ []) (omega arith)
-corners-snoc ps ns fs i (suc n) =
-    ap (λ l. cornerAt ps ns fs i ∷ l) (corners-snoc ps ns fs (i + 1) n) ∙ ap (λ k. cornerAt ps ns fs i ∷ (cornersAt ps ns fs (i + 1) n ++ (cornerAt ps ns fs k ∷ []))) (omega arith)
 
 corners-put : (ps ns fs : List ℕ) (j x y : ℕ) → j < length ns → j < length fs →
     cornersAt ps (set ns j x) (set fs j y) 0 (j + 1) ≡ cornersAt ps ns fs 0 j ++ (record { face = y; point = getD ps j 0; next = x } ∷ [])

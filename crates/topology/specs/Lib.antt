@@ -3,3 +3,4 @@ pub mod Corners
 pub mod Laws
 pub mod Sound
 pub mod Chains
+pub mod Paired

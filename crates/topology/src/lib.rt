@@ -14,7 +14,7 @@ ghost use Rattle.room.specs.Rooms.{countsAt};
 ghost use Rattle.solids.specs.Sides.{has};
 ghost use Rattle.solids.specs.Frames.{facesAt, Placing};
 ghost use Rattle.topology.specs.Topology.{cornerOf, cornersOf, fits, across, joins, rounded, sound};
-ghost use Rattle.topology.specs.Corners.{cornerAt, cornersAt, Tallied};
+ghost use Rattle.topology.specs.Corners.{cornerAt, cornersAt, paired, Tallied};
 
 fn one_more(k: usize, hit: bool) -> usize
     requires { ⌜ k < 18446744073709551615 ⌝ }
@@ -26,20 +26,18 @@ fn one_more(k: usize, hit: bool) -> usize
     k
 }
 
-// How often a point stands in a face, an edge among all, and its reverse.
+// How often a point stands in a face, and the reverse of an edge among all.
 struct Counts {
     alone: usize,
-    edge: usize,
     reverse: usize,
 }
 
-// The point x of face f, and the edge from x to y, counted among c corners in one pass.
+// The point x of face f, and the edge from y to x, counted among c corners in one pass.
 fn tally(places: &[u64], nexts: &[u64], faces: &[u64], c: usize, f: u64, x: u64, y: u64) -> Counts
     requires { ⌜ (c ≤ length (now places)) × (c ≤ length (now nexts)) × (c ≤ length (now faces)) ⌝ }
-    ensures { λ r. ⌜ Tallied (now (places .entry)) (now (nexts .entry)) (now (faces .entry)) c f x y (r .alone) (r .edge) (r .reverse) ⌝ }
+    ensures { λ r. ⌜ Tallied (now (places .entry)) (now (nexts .entry)) (now (faces .entry)) c f x y (r .alone) (r .reverse) ⌝ }
 {
     let mut alone = 0;
-    let mut edge = 0;
     let mut reverse = 0;
     let mut i = 0;
     while i < c {
@@ -47,28 +45,24 @@ fn tally(places: &[u64], nexts: &[u64], faces: &[u64], c: usize, f: u64, x: u64,
         let q = nexts[i];
         let g = faces[i];
         alone = one_more(alone, (g == f) & (p == x));
-        edge = one_more(edge, (p == x) & (q == y));
         reverse = one_more(reverse, (p == y) & (q == x));
         i += 1;
     }
-    Counts {
-        alone,
-        edge,
-        reverse,
-    }
+    Counts { alone, reverse }
 }
 
-// Corner i of c: its index is below m, its point stands once in its face, and its edge and the reverse stand once.
+// Corner i of c: its index is below m, its point stands once in its face, and the reverse of its edge stands once. Where this holds
+// of all corners, each edge stands once too.
 fn is_fit(m: usize, places: &[u64], nexts: &[u64], faces: &[u64], c: usize, i: usize) -> bool
     requires { ⌜ (c ≤ length (now places)) × (c ≤ length (now nexts)) × (c ≤ length (now faces)) × (i < c) ⌝ }
-    ensures { λ r. ⌜ r ≡ fits m (cornersAt (now (places .entry)) (now (nexts .entry)) (now (faces .entry)) 0 c) (cornerAt (now (places .entry)) (now (nexts .entry)) (now (faces .entry)) i) ⌝ }
+    ensures { λ r. ⌜ r ≡ paired m (cornersAt (now (places .entry)) (now (nexts .entry)) (now (faces .entry)) 0 c) (cornerAt (now (places .entry)) (now (nexts .entry)) (now (faces .entry)) i) ⌝ }
 {
     let x = places[i];
     let y = nexts[i];
     let f = faces[i];
     let known = (x as usize) < m;
     let s = tally(places, nexts, faces, c, f, x, y);
-    ((known & (s.alone == 1)) & (s.edge == 1)) & (s.reverse == 1)
+    (known & (s.alone == 1)) & (s.reverse == 1)
 }
 
 fn all_fit(m: usize, places: &[u64], nexts: &[u64], faces: &[u64], c: usize) -> bool
@@ -98,29 +92,21 @@ fn all_used(places: &[u64], c: usize, m: usize) -> bool
     fine
 }
 
-fn chosen(hit: bool, x: u64, y: u64) -> u64
-    ensures { λ r. ⌜ r ≡ cond hit x y ⌝ }
-{
-    if hit {
-        return x;
-    }
-    y
-}
-
-// The face across the edge of corner i of c.
+// The face across the edge of corner i of c. The last corner that has the reverse tells it, so they are searched from the end.
 fn face_across(places: &[u64], nexts: &[u64], faces: &[u64], c: usize, i: usize) -> u64
     requires { ⌜ (c ≤ length (now places)) × (c ≤ length (now nexts)) × (c ≤ length (now faces)) × (i < c) ⌝ }
     ensures { λ r. ⌜ r ≡ across (cornersAt (now (places .entry)) (now (nexts .entry)) (now (faces .entry)) 0 c) (cornerAt (now (places .entry)) (now (nexts .entry)) (now (faces .entry)) i) ⌝ }
 {
     let a = nexts[i];
     let b = places[i];
-    let mut f = faces[i];
-    let mut q = 0;
-    while q < c {
-        f = chosen((places[q] == a) & (nexts[q] == b), faces[q], f);
-        q += 1;
+    let mut q = c;
+    while 0 < q {
+        q -= 1;
+        if (places[q] == a) & (nexts[q] == b) {
+            return faces[q];
+        }
     }
-    f
+    faces[i]
 }
 
 // Each corner's face and the one across go to `ends`.

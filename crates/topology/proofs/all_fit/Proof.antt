@@ -3,15 +3,15 @@ use mathlib.Core.Bool.{true}
 use Prim.Native.Nat.{_-_, _≤_}
 use lib.ListN.{drop}
 use Rattle.lists.specs.Walks.{all}
-use Rattle.topology.specs.Topology.{fits}
-use Rattle.topology.specs.Corners.{cornersAt}
+use Rattle.topology.specs.Corners.{cornersAt, paired}
 use Rattle.topology.specs.Laws.{fit-next, fit-end}
+use Rattle.topology.specs.Paired.{all-paired}
 use borrow.Author.Needs.{needs}
 use Rattle.topology.proofs.all_fit.Statement.{statement}
 use Rattle.topology.proofs.all_fit.Tie as tie
 
 abbrev Inv-loop : tie.InvT-loop
-Inv-loop m places nexts faces c fine₀ i₀ fine i = (i ≤ c) × (all (fits m (cornersAt places nexts faces 0 c)) fine (drop i (cornersAt places nexts faces 0 c)) ≡ all (fits m (cornersAt places nexts faces 0 c)) true (cornersAt places nexts faces 0 c))
+Inv-loop m places nexts faces c fine₀ i₀ fine i = (i ≤ c) × (all (paired m (cornersAt places nexts faces 0 c)) fine (drop i (cornersAt places nexts faces 0 c)) ≡ all (paired m (cornersAt places nexts faces 0 c)) true (cornersAt places nexts faces 0 c))
 
 abbrev μ-loop : tie.MeasureT-loop
 μ-loop m places nexts faces c fine₀ i₀ fine i = c - i
@@ -32,7 +32,7 @@ loop-again : tie.Need-loop-again Inv-loop μ-loop
 loop-again c = search (needs, fit-next)
 
 returns : tie.Need-returns Inv-loop μ-loop
-returns c = sym (fit-end _ _ _ _ _ _ _ (c .loop-test .left)) ∙ c .before .loop .inv .1
+returns c = sym (fit-end _ _ _ _ _ _ _ (c .loop-test .left)) ∙ c .before .loop .inv .1 ∙ all-paired _ _
 
 pub all-fit-spec : {M : Type 1} → statement M
 all-fit-spec =

@@ -1,4 +1,4 @@
-use Rattle.topology.specs.Laws.{fit-by}
+use Rattle.topology.specs.Laws.{paired-by}
 use borrow.Author.Needs.{needs}
 use Rattle.topology.proofs.is_fit.Statement.{statement}
 use Rattle.topology.proofs.is_fit.Tie as tie
@@ -25,7 +25,7 @@ tally-requires : tie.Need-tally-requires
 tally-requires c κs = search needs
 
 returns : tie.Need-returns
-returns c = search (needs, fit-by)
+returns c = search (needs, paired-by)
 
 pub is-fit-spec : {M : Type 1} → statement M
 is-fit-spec =

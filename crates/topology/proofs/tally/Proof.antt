@@ -5,10 +5,10 @@ use Rattle.topology.proofs.tally.Statement.{statement}
 use Rattle.topology.proofs.tally.Tie as tie
 
 abbrev Inv-loop : tie.InvT-loop
-Inv-loop places nexts faces c f x y alone₀ edge₀ reverse₀ i₀ alone edge reverse i = Tallying places nexts faces c f x y alone edge reverse i
+Inv-loop places nexts faces c f x y alone₀ reverse₀ i₀ alone reverse i = Tallying places nexts faces c f x y alone reverse i
 
 abbrev μ-loop : tie.MeasureT-loop
-μ-loop places nexts faces c f x y alone₀ edge₀ reverse₀ i₀ alone edge reverse i = c - i
+μ-loop places nexts faces c f x y alone₀ reverse₀ i₀ alone reverse i = c - i
 
 loop-holds : tie.Need-loop-holds Inv-loop μ-loop
 loop-holds c = tallying-start _ _ _ _ _ _ _
@@ -37,9 +37,6 @@ one-more-requires c κs = search needs
 one-more-requires-2 : tie.Need-one-more-requires-2 Inv-loop μ-loop
 one-more-requires-2 c κs = search needs
 
-one-more-requires-3 : tie.Need-one-more-requires-3 Inv-loop μ-loop
-one-more-requires-3 c κs = search needs
-
 add-i : tie.Need-add-i Inv-loop μ-loop
 add-i c = search needs
 
@@ -67,7 +64,6 @@ tally-spec =
     shared-slice-read-g
     one-more-requires
     one-more-requires-2
-    one-more-requires-3
     add-i
     loop-less
     loop-again

@@ -1,8 +1,8 @@
-use Rattle.cells.specs.Laws.{keep-nothing, keep-part, keep-refused, inside-part}
+use Rattle.carving.specs.Laws.{keep-nothing, keep-part, keep-refused, inside-part}
 use native.Mathlib.Omega.{arith}
 use borrow.Author.Needs.{needs}
-use Rattle.cells.proofs.keep.Statement.{statement}
-use Rattle.cells.proofs.keep.Tie as tie
+use Rattle.carving.proofs.keep.Statement.{statement}
+use Rattle.carving.proofs.keep.Tie as tie
 
 enum-told : tie.Need-enum-told
 enum-told c = search needs

@@ -1,7 +1,7 @@
-use Rattle.cells.specs.Laws.{end-stays, end-fine, end-refused}
+use Rattle.carving.specs.Laws.{end-stays, end-fine, end-refused}
 use borrow.Author.Needs.{needs}
-use Rattle.cells.proofs.end.Statement.{statement}
-use Rattle.cells.proofs.end.Tie as tie
+use Rattle.carving.proofs.end.Statement.{statement}
+use Rattle.carving.proofs.end.Tie as tie
 
 enum-told : tie.Need-enum-told
 enum-told c = search needs

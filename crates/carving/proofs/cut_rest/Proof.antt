@@ -1,9 +1,9 @@
 use borrow.Author.Tests.{not-true, not-false}
-use Rattle.cells.specs.Laws.{left-stays, left-nothing, left-cut, clip-inside}
+use Rattle.carving.specs.Laws.{left-stays, left-nothing, left-cut, clip-inside}
 use native.Mathlib.Omega.{arith}
 use borrow.Author.Needs.{needs}
-use Rattle.cells.proofs.cut_rest.Statement.{statement}
-use Rattle.cells.proofs.cut_rest.Tie as tie
+use Rattle.carving.proofs.cut_rest.Statement.{statement}
+use Rattle.carving.proofs.cut_rest.Tie as tie
 
 enum-told : tie.Need-enum-told
 enum-told c = search needs

@@ -1,8 +1,8 @@
 use mathlib.Core.Path.{refl, _∙_}
 use Rattle.stack.specs.Laws.{work-on}
-use Rattle.cells.specs.Laws.{carved}
-use Rattle.cells.proofs.carve_cell.Statement.{statement}
-use Rattle.cells.proofs.carve_cell.Tie as tie
+use Rattle.carving.specs.Laws.{carved}
+use Rattle.carving.proofs.carve_cell.Statement.{statement}
+use Rattle.carving.proofs.carve_cell.Tie as tie
 
 add-part-requires : tie.Need-add-part-requires
 add-part-requires c κs =

@@ -1,8 +1,8 @@
 use borrow.Author.Tests.{not-true, not-false}
-use Rattle.cells.specs.Laws.{carves-nothing, carves-cell, carves-refused}
+use Rattle.carving.specs.Laws.{carves-nothing, carves-cell, carves-refused}
 use borrow.Author.Needs.{needs}
-use Rattle.cells.proofs.carve.Statement.{statement}
-use Rattle.cells.proofs.carve.Tie as tie
+use Rattle.carving.proofs.carve.Statement.{statement}
+use Rattle.carving.proofs.carve.Tie as tie
 
 returns : tie.Need-returns
 returns c = carves-nothing _ _ _ _ _ _ _ _ _ (c .before .before .before .before .before .before .before .before .before .before .before .before .before .before .before .pre .0) (not-true _ (c .if1 .taken))

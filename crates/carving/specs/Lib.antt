@@ -1,0 +1,3 @@
+pub mod Carvings
+pub mod Rests
+pub mod Laws
