@@ -347,7 +347,7 @@ up-number {x} a = record {
   real = subst (λ (z : Float). T (not (isNan z))) (next-step x (is-false (isNan x) (a .real))) (subst (λ (t : Bool). T (not t)) (nanBits-is binary64 (nextBits (toBits binary64 x))) (next-plain x (a .held) (is-false (isNan x) (a .real))));
 }
 
-up-bits : {x : Float} → Number x → toBits binary64 (nextUp x) ≡ nextBits (toBits binary64 x)
+pub up-bits : {x : Float} → Number x → toBits binary64 (nextUp x) ≡ nextBits (toBits binary64 x)
 up-bits {x} a =
     let e = next-step x (is-false (isNan x) (a .real)) in
     ap (toBits binary64) (sym e) ∙ toBits-ofBits binary64 (nextBits (toBits binary64 x)) (step-under (toBits binary64 x) (toBits-lt binary64 x (a .held))) (subst (λ (z : Float). T (not (isNan z))) (sym e) (up-number a .real))

@@ -5,7 +5,7 @@ use Rattle.refusal.specs.Outcome.{Outcome, refusalOf}
 use Rattle.interval.specs.declared.Interval.{Interval}
 use Rattle.interval.specs.declared.Sign.{Sign}
 use Rattle.interval.specs.declared.Sign.the-variants as S
-use Rattle.interval.specs.Ends.{pointI, addI, subI, signOf}
+use Rattle.interval.specs.Ends.{pointI, addI, subI, mulI, signOf}
 use Rattle.interval.specs.Box.{dotI, differenceI}
 use Rattle.space.specs.declared.Point3.{Point3}
 use Rattle.space.specs.declared.Plane.{Plane}
@@ -18,6 +18,10 @@ use Rattle.side.specs.declared.Side.the-variants.{Positive, Negative, Ze
 -- (p - origin) dot normal
 unfoldable pub distanceOf : Plane → Point3 → Interval
 distanceOf w p = dotI (differenceI (boxOf p) (boxOf (w .frame .origin))) (boxOf (w .frame .z))
+
+-- its part along one axis
+unfoldable pub alongI : Float → Float → Float → Interval
+alongI x o z = mulI (subI (pointI x) (pointI o)) (pointI z)
 
 -- the same, rounded at each operation
 unfoldable pub heightOf : Plane → Point3 → Float

@@ -8,7 +8,7 @@ use space::Point3;
 use space::Precision;
 ghost use mathlib.Core.Path.{_≡_};
 ghost use Rattle.space.specs.Frames.{planed};
-ghost use Rattle.side.specs.Sides.{distanceOf, heightOf, isPositive, isNegative, within, firstOf, classed, sideOf, oppositeOf};
+ghost use Rattle.side.specs.Sides.{alongI, distanceOf, heightOf, isPositive, isNegative, within, firstOf, classed, sideOf, oppositeOf};
 
 pub enum Side {
     Positive,
@@ -17,14 +17,27 @@ pub enum Side {
     Refused(Refusal),
 }
 
-// The interval of the distance from the plane, outward positive.
+// The interval from o to x, times z.
+fn along(x: f64, o: f64, z: f64) -> Interval
+    ensures { λ r. ⌜ r ≡ alongI x o z ⌝ }
+{
+    interval::mul(
+        interval::sub(interval::point(x), interval::point(o)),
+        interval::point(z),
+    )
+}
+
+// The interval of the distance from the plane, outward positive. Axis by axis and not through arrays: so the compiler sees that the
+// origin and the normal are points, and halves the products.
 pub fn distance(plane: Plane, p: Point3) -> Interval
     ensures { λ r. ⌜ r ≡ distanceOf plane p ⌝ }
 {
     let frame = plane.frame;
-    interval::dot(
-        interval::difference(space::coordinates(p), space::coordinates(frame.origin)),
-        space::coordinates(frame.z),
+    let o = frame.origin;
+    let z = frame.z;
+    interval::add(
+        interval::add(along(p.x, o.x, z.x), along(p.y, o.y, z.y)),
+        along(p.z, o.z, z.z),
     )
 }
 

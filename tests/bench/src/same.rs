@@ -3,6 +3,7 @@
 const SIGN_BIT: u64 = 0x8000_0000_0000_0000;
 
 const INF_BITS: u64 = 0x7ff0_0000_0000_0000;
+const LOW_BITS: u64 = 0xfff0_0000_0000_0000;
 
 #[derive(Clone, Copy)]
 struct Interval {
@@ -35,8 +36,21 @@ fn next_up(x: f64) -> f64 {
     f64::from_bits(next_bits(x.to_bits()))
 }
 
+fn last_bits(n: u64) -> u64 {
+    if n < SIGN_BIT {
+        return if n == 0 { SIGN_BIT + 1 } else { n - 1 };
+    }
+    if n < LOW_BITS {
+        return n + 1;
+    }
+    n
+}
+
 fn next_down(x: f64) -> f64 {
-    -next_up(-x)
+    if x.is_nan() {
+        return x;
+    }
+    f64::from_bits(last_bits(x.to_bits()))
 }
 
 fn outward(l: f64, h: f64) -> Interval {
