@@ -8,8 +8,14 @@ ghost use Rattle.room.specs.Rooms.{cellAt, countsAt};
 ghost use Rattle.clip.specs.Clips.{Given, Wide};
 ghost use Rattle.stack.specs.Stacks.{Places, Work};
 ghost use Rattle.cells.specs.Rests.{Sits, Place};
-ghost use Rattle.arrangement.specs.Arrangements.{Laid, Lent};
-ghost use Rattle.fused_cells.specs.Fused.{arrangedOf};
+ghost use Rattle.arrangement.specs.Arrangements.{Lent};
+ghost use Rattle.fused_cells.specs.Fused.{Ready};
+
+// What the slices hold, and of how many cells.
+pub struct Arranged {
+    pub layout: Layout,
+    pub cells: usize,
+}
 
 // The first cell stands in `rest`, which is work memory; the second in `src` from `from` on.
 pub fn fused_cells(
@@ -45,10 +51,10 @@ pub fn fused_cells(
     lengths: &mut [u64],
     starts: &mut [u64],
     owners: &mut [u64],
-) -> Layout
+) -> Arranged
     requires { ⌜ Sits faces (now rest) (now held) × Given (now src) from (now corners) j many × Wide (cellAt (now src) from (countsAt (now corners) j many)) × (1 ≤ many) × (many ≤ 128) × Lent limit (now points) (now merged) (now lows) (now highs) (now places) (now cycles) (now lengths) (now starts) (now owners) ⌝ }
     requires { ⌜ (3072 ≤ length (now planes)) × Place limit (now rest) (now held) × Places limit (now dst) (now counts) (now sizes) × Places limit (now spare) (now slots) (now seats) × Work (now face) (now cap) (now flat) (now order) (now chain) ⌝ }
-    ensures { λ r. ⌜ Laid (arrangedOf op t limit (cellAt (now (rest .entry)) 0 (countsAt (now (held .entry)) 0 faces)) (cellAt (now (src .entry)) from (countsAt (now (corners .entry)) j many))) (now (points .entry)) (now (cycles .entry)) (now (starts .entry)) (now (owners .entry)) (now (points .exit)) (now (cycles .exit)) (now (starts .exit)) (now (owners .exit)) r ⌝ }
+    ensures { λ r. ⌜ Ready op t limit (cellAt (now (rest .entry)) 0 (countsAt (now (held .entry)) 0 faces)) (cellAt (now (src .entry)) from (countsAt (now (corners .entry)) j many)) (now (points .entry)) (now (cycles .entry)) (now (starts .entry)) (now (owners .entry)) (now (points .exit)) (now (cycles .exit)) (now (starts .exit)) (now (owners .exit)) r ⌝ }
 {
     let s = pieces::pieces(
         op,
@@ -75,7 +81,8 @@ pub fn fused_cells(
         order,
         chain,
     );
-    arrangement::arrangement(
+    let cells = s.cells;
+    let layout = arrangement::arrangement(
         t,
         limit,
         s,
@@ -91,5 +98,6 @@ pub fn fused_cells(
         lengths,
         starts,
         owners,
-    )
+    );
+    Arranged { layout, cells }
 }

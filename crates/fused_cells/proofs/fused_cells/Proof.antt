@@ -1,5 +1,5 @@
 use Rattle.stack.specs.Laws.{holds}
-use Rattle.fused_cells.specs.Laws.{arranged-laid}
+use Rattle.fused_cells.specs.Laws.{arranged-ready}
 use Rattle.fused_cells.proofs.fused_cells.Statement.{statement}
 use Rattle.fused_cells.proofs.fused_cells.Tie as tie
 
@@ -79,7 +79,7 @@ same-length-23 : tie.Need-same-length-23
 same-length-23 c = c .before .before .before .before .before .before .before .before .before .before .before .before .before .before .before .before .before .before .arrangement .kept .1 .1 .1 .1 .1 .1 .1 .1 .1 .1 .1 .1 .1 .1 .0
 
 returns : tie.Need-returns
-returns c = arranged-laid _ _ _ _ _ _ _ _ _ (c .before .before .before .before .before .before .before .before .before .before .before .before .before .before .before .before .before .before .before .before .before .before .before .before .before .before .before .before .before .before .before .before .before .before .before .before .before .before .before .before .before .before .before .before .before .before .before .before .before .before .before .before .before .before .before .before .before .before .before .pieces .ensures) (c .before .before .before .before .before .before .before .before .before .before .before .before .before .before .before .before .before .before .arrangement .ensures)
+returns c = arranged-ready _ _ _ _ _ _ _ _ _ (c .before .before .before .before .before .before .before .before .before .before .before .before .before .before .before .before .before .before .before .before .before .before .before .before .before .before .before .before .before .before .before .before .before .before .before .before .before .before .before .before .before .before .before .before .before .before .before .before .before .before .before .before .before .before .before .before .before .before .before .pieces .ensures) (c .before .before .before .before .before .before .before .before .before .before .before .before .before .before .before .before .before .before .arrangement .ensures)
 
 pub fused-cells-spec : {M : Type 1} → statement M
 fused-cells-spec =
