@@ -1,0 +1,3 @@
+pub mod Fused
+pub mod Growing
+pub mod Laws

@@ -1,0 +1,104 @@
+// The bytes of fused bodies. The plane of facet i stands in s at spots[i]; its corners are the points of its cycle
+// v[starts[i]..starts[i + 1]], point k from 3 * k on. Each function takes the place where it begins.
+ghost use mathlib.Core.Path.{_≡_};
+ghost use Prim.Native.Nat.{ℕ, _+_, _*_, _≤_, _<_};
+ghost use lib.ListN.{length, getD, set};
+ghost use lib.Seq.{sets};
+ghost use Rattle.room.specs.Rooms.{countsAt};
+ghost use Rattle.writer.specs.Rows.{row};
+ghost use Rattle.volume.specs.Shell.{Points};
+ghost use Rattle.fused_answer.specs.Fused.{cornerBytes, Drawn, facetBytes, shellBytes};
+
+// n corners of a cycle, from a on.
+fn put_corners(points: &[f64], v: &[u64], a: usize, n: usize, out: &mut [u8], at: usize)
+    requires { ⌜ Points (now points) (now v) × (a + n ≤ length (now v)) × (at + 24 * n ≤ length (now out)) ⌝ }
+    ensures { λ _. ⌜ now (out .exit) ≡ sets (now (out .entry)) at (row (cornerBytes (now (points .entry))) (countsAt (now (v .entry)) a n)) ⌝ }
+{
+    let mut i = 0;
+    while i < n {
+        let p = v[a + i] as usize;
+        let q = polygon::get_point(points, 3 * p);
+        answer::put_point(out, at + 24 * i, q);
+        i += 1;
+    }
+}
+
+// Facet i; returns the place behind it.
+fn put_facet(
+    s: &[f64],
+    spots: &[u64],
+    points: &[f64],
+    v: &[u64],
+    starts: &[u64],
+    f: usize,
+    i: usize,
+    out: &mut [u8],
+    at: usize,
+) -> usize
+    requires { ⌜ Drawn (now s) (now spots) (now points) (now v) (now starts) f × (i < f) × (at + length (facetBytes (now s) (now spots) (now points) (now v) (now starts) i) ≤ length (now out)) ⌝ }
+    ensures { λ r. ⌜ r ≡ at + length (facetBytes (now (s .entry)) (now (spots .entry)) (now (points .entry)) (now (v .entry)) (now (starts .entry)) i) ⌝ }
+    ensures { λ _. ⌜ now (out .exit) ≡ sets (now (out .entry)) at (facetBytes (now (s .entry)) (now (spots .entry)) (now (points .entry)) (now (v .entry)) (now (starts .entry)) i) ⌝ }
+{
+    let w = room::get_plane(s, spots[i] as usize);
+    let a = starts[i] as usize;
+    let n = starts[i + 1] as usize - a;
+    answer::put_plane(out, at, w);
+    words::put_count(out, at + 96, n as u64);
+    put_corners(points, v, a, n, out, at + 100);
+    at + 100 + 24 * n
+}
+
+// The facets of a list; returns the place behind them.
+fn put_facets(
+    s: &[f64],
+    spots: &[u64],
+    points: &[f64],
+    v: &[u64],
+    starts: &[u64],
+    f: usize,
+    facets: &[u64],
+    out: &mut [u8],
+    at: usize,
+) -> usize
+    requires { ⌜ Drawn (now s) (now spots) (now points) (now v) (now starts) f × ((k : ℕ) → k < length (now facets) → getD (now facets) k 0 < f) × (at + length (row (facetBytes (now s) (now spots) (now points) (now v) (now starts)) (now facets)) ≤ length (now out)) ⌝ }
+    ensures { λ r. ⌜ r ≡ at + length (row (facetBytes (now (s .entry)) (now (spots .entry)) (now (points .entry)) (now (v .entry)) (now (starts .entry))) (now (facets .entry))) ⌝ }
+    ensures { λ _. ⌜ now (out .exit) ≡ sets (now (out .entry)) at (row (facetBytes (now (s .entry)) (now (spots .entry)) (now (points .entry)) (now (v .entry)) (now (starts .entry))) (now (facets .entry))) ⌝ }
+{
+    let mut p = at;
+    let mut i = 0;
+    while i < facets.len() {
+        let k = facets[i] as usize;
+        p = put_facet(s, spots, points, v, starts, f, k, out, p);
+        i += 1;
+    }
+    p
+}
+
+fn put_sense(out: &mut [u8], at: usize, sense: u8)
+    requires { ⌜ at < length (now out) ⌝ }
+    ensures { λ _. ⌜ now (out .exit) ≡ set (now (out .entry)) at sense ⌝ }
+{
+    out[at] = sense;
+}
+
+// A shell: its sense, 1 for outward and 0 for inward, and its facets; returns the place behind it.
+pub fn put_shell(
+    sense: u8,
+    s: &[f64],
+    spots: &[u64],
+    points: &[f64],
+    v: &[u64],
+    starts: &[u64],
+    f: usize,
+    facets: &[u64],
+    out: &mut [u8],
+    at: usize,
+) -> usize
+    requires { ⌜ Drawn (now s) (now spots) (now points) (now v) (now starts) f × ((k : ℕ) → k < length (now facets) → getD (now facets) k 0 < f) × (at + length (shellBytes (now s) (now spots) (now points) (now v) (now starts) sense (now facets)) ≤ length (now out)) ⌝ }
+    ensures { λ r. ⌜ r ≡ at + length (shellBytes (now (s .entry)) (now (spots .entry)) (now (points .entry)) (now (v .entry)) (now (starts .entry)) sense (now (facets .entry))) ⌝ }
+    ensures { λ _. ⌜ now (out .exit) ≡ sets (now (out .entry)) at (shellBytes (now (s .entry)) (now (spots .entry)) (now (points .entry)) (now (v .entry)) (now (starts .entry)) sense (now (facets .entry))) ⌝ }
+{
+    put_sense(out, at, sense);
+    words::put_count(out, at + 1, facets.len() as u64);
+    put_facets(s, spots, points, v, starts, f, facets, out, at + 5)
+}
