@@ -36,3 +36,12 @@ module _ (s : List Float) (spots : List ℕ) (ps : List Float) (v starts : List 
   -- "for each shell u8 (1 outward, 0 inward) and u32 facets"
   unfoldable pub shellBytes : ℕ → List ℕ → List ℕ
   shellBytes sense g = shellAnswer sense (map (facetOf s spots ps v starts) g)
+
+  -- the outward shell first, the others inward
+  unfoldable pub shellsBytes : ℕ → List (List ℕ) → List ℕ
+  shellsBytes sense [] = []
+  shellsBytes sense (g ∷ gs) = shellBytes sense g ++ shellsBytes 0 gs
+
+  -- "for each body u32 shells"
+  unfoldable pub bodyBytes : List (List ℕ) → List ℕ
+  bodyBytes b = digits 4 (length b) ++ shellsBytes 1 b

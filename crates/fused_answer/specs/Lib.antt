@@ -1,3 +1,5 @@
 pub mod Fused
 pub mod Growing
 pub mod Laws
+pub mod Bodies
+pub mod Lies

@@ -7,7 +7,15 @@ ghost use lib.Seq.{sets};
 ghost use Rattle.room.specs.Rooms.{countsAt};
 ghost use Rattle.writer.specs.Rows.{row};
 ghost use Rattle.volume.specs.Shell.{Points};
-ghost use Rattle.fused_answer.specs.Fused.{cornerBytes, Drawn, facetBytes, shellBytes};
+ghost use Rattle.solids.specs.Frames.{facesAt, Placing};
+ghost use Rattle.fused_answer.specs.Fused.{cornerBytes, Drawn, facetBytes, shellBytes, shellsBytes, bodyBytes};
+ghost use Rattle.fused_answer.specs.Bodies.{total, bodiesAt, Stacked};
+
+// The places behind what is written: in bytes, and of its facets.
+pub struct Written {
+    pub at: usize,
+    pub facets: usize,
+}
 
 // n corners of a cycle, from a on.
 fn put_corners(points: &[f64], v: &[u64], a: usize, n: usize, out: &mut [u8], at: usize)
@@ -82,7 +90,7 @@ fn put_sense(out: &mut [u8], at: usize, sense: u8)
 }
 
 // A shell: its sense, 1 for outward and 0 for inward, and its facets; returns the place behind it.
-pub fn put_shell(
+fn put_shell(
     sense: u8,
     s: &[f64],
     spots: &[u64],
@@ -101,4 +109,135 @@ pub fn put_shell(
     put_sense(out, at, sense);
     words::put_count(out, at + 1, facets.len() as u64);
     put_facets(s, spots, points, v, starts, f, facets, out, at + 5)
+}
+
+// k shells, whose facets stand from `from` on and whose sizes from `sat` on: the first is outward, the others are inward.
+fn put_shells(
+    s: &[f64],
+    spots: &[u64],
+    points: &[f64],
+    v: &[u64],
+    starts: &[u64],
+    f: usize,
+    facets: &[u64],
+    from: usize,
+    sizes: &[u64],
+    sat: usize,
+    k: usize,
+    out: &mut [u8],
+    at: usize,
+) -> Written
+    requires { ⌜ Drawn (now s) (now spots) (now points) (now v) (now starts) f × ((m : ℕ) → m < length (now facets) → getD (now facets) m 0 < f) × (sat + k ≤ length (now sizes)) × Placing (countsAt (now sizes) sat k) from (length (now facets)) × (at + length (shellsBytes (now s) (now spots) (now points) (now v) (now starts) 1 (facesAt (now facets) from (countsAt (now sizes) sat k))) ≤ length (now out)) ⌝ }
+    ensures { λ r. ⌜ r ≡ record { at = at + length (shellsBytes (now (s .entry)) (now (spots .entry)) (now (points .entry)) (now (v .entry)) (now (starts .entry)) 1 (facesAt (now (facets .entry)) from (countsAt (now (sizes .entry)) sat k))); facets = from + total (countsAt (now (sizes .entry)) sat k) } ⌝ }
+    ensures { λ _. ⌜ now (out .exit) ≡ sets (now (out .entry)) at (shellsBytes (now (s .entry)) (now (spots .entry)) (now (points .entry)) (now (v .entry)) (now (starts .entry)) 1 (facesAt (now (facets .entry)) from (countsAt (now (sizes .entry)) sat k))) ⌝ }
+{
+    let mut sense: u8 = 1;
+    let mut p = at;
+    let mut q = from;
+    let mut j = 0;
+    while j < k {
+        let n = sizes[sat + j] as usize;
+        p = put_shell(
+            sense,
+            s,
+            spots,
+            points,
+            v,
+            starts,
+            f,
+            &facets[q..q + n],
+            out,
+            p,
+        );
+        sense = 0;
+        q += n;
+        j += 1;
+    }
+    Written { at: p, facets: q }
+}
+
+// A body of k shells.
+fn put_body(
+    s: &[f64],
+    spots: &[u64],
+    points: &[f64],
+    v: &[u64],
+    starts: &[u64],
+    f: usize,
+    facets: &[u64],
+    from: usize,
+    sizes: &[u64],
+    sat: usize,
+    k: usize,
+    out: &mut [u8],
+    at: usize,
+) -> Written
+    requires { ⌜ Drawn (now s) (now spots) (now points) (now v) (now starts) f × ((m : ℕ) → m < length (now facets) → getD (now facets) m 0 < f) × (sat + k ≤ length (now sizes)) × Placing (countsAt (now sizes) sat k) from (length (now facets)) × (at + length (bodyBytes (now s) (now spots) (now points) (now v) (now starts) (facesAt (now facets) from (countsAt (now sizes) sat k))) ≤ length (now out)) ⌝ }
+    ensures { λ r. ⌜ r ≡ record { at = at + length (bodyBytes (now (s .entry)) (now (spots .entry)) (now (points .entry)) (now (v .entry)) (now (starts .entry)) (facesAt (now (facets .entry)) from (countsAt (now (sizes .entry)) sat k))); facets = from + total (countsAt (now (sizes .entry)) sat k) } ⌝ }
+    ensures { λ _. ⌜ now (out .exit) ≡ sets (now (out .entry)) at (bodyBytes (now (s .entry)) (now (spots .entry)) (now (points .entry)) (now (v .entry)) (now (starts .entry)) (facesAt (now (facets .entry)) from (countsAt (now (sizes .entry)) sat k))) ⌝ }
+{
+    words::put_count(out, at, k as u64);
+    put_shells(
+        s,
+        spots,
+        points,
+        v,
+        starts,
+        f,
+        facets,
+        from,
+        sizes,
+        sat,
+        k,
+        out,
+        at + 4,
+    )
+}
+
+// g bodies, whose facets, shells' sizes and numbers of shells lie in three slices; returns the place behind them.
+pub fn put_bodies(
+    s: &[f64],
+    spots: &[u64],
+    points: &[f64],
+    v: &[u64],
+    starts: &[u64],
+    f: usize,
+    facets: &[u64],
+    sizes: &[u64],
+    shells: &[u64],
+    g: usize,
+    out: &mut [u8],
+    at: usize,
+) -> usize
+    requires { ⌜ Drawn (now s) (now spots) (now points) (now v) (now starts) f × ((m : ℕ) → m < length (now facets) → getD (now facets) m 0 < f) × (g ≤ length (now shells)) × Stacked (now facets) (now sizes) 0 0 (countsAt (now shells) 0 g) × (at + length (row (bodyBytes (now s) (now spots) (now points) (now v) (now starts)) (bodiesAt (now facets) (now sizes) 0 0 (countsAt (now shells) 0 g))) ≤ length (now out)) ⌝ }
+    ensures { λ r. ⌜ r ≡ at + length (row (bodyBytes (now (s .entry)) (now (spots .entry)) (now (points .entry)) (now (v .entry)) (now (starts .entry))) (bodiesAt (now (facets .entry)) (now (sizes .entry)) 0 0 (countsAt (now (shells .entry)) 0 g))) ⌝ }
+    ensures { λ _. ⌜ now (out .exit) ≡ sets (now (out .entry)) at (row (bodyBytes (now (s .entry)) (now (spots .entry)) (now (points .entry)) (now (v .entry)) (now (starts .entry))) (bodiesAt (now (facets .entry)) (now (sizes .entry)) 0 0 (countsAt (now (shells .entry)) 0 g))) ⌝ }
+{
+    let mut p = at;
+    let mut q = 0;
+    let mut j = 0;
+    let mut i = 0;
+    while i < g {
+        let k = shells[i] as usize;
+        let w = put_body(
+            s,
+            spots,
+            points,
+            v,
+            starts,
+            f,
+            facets,
+            q,
+            sizes,
+            j,
+            k,
+            out,
+            p,
+        );
+        p = w.at;
+        q = w.facets;
+        j += k;
+        i += 1;
+    }
+    p
 }
