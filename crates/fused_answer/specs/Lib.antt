@@ -3,3 +3,4 @@ pub mod Growing
 pub mod Laws
 pub mod Bodies
 pub mod Lies
+pub mod Spots

@@ -4,17 +4,33 @@ ghost use mathlib.Core.Path.{_≡_};
 ghost use Prim.Native.Nat.{ℕ, _+_, _*_, _≤_, _<_};
 ghost use lib.ListN.{length, getD, set};
 ghost use lib.Seq.{sets};
-ghost use Rattle.room.specs.Rooms.{countsAt};
+ghost use Rattle.room.specs.Rooms.{countsAt, Within};
 ghost use Rattle.writer.specs.Rows.{row};
 ghost use Rattle.volume.specs.Shell.{Points};
 ghost use Rattle.solids.specs.Frames.{facesAt, Placing};
 ghost use Rattle.fused_answer.specs.Fused.{cornerBytes, Drawn, facetBytes, shellBytes, shellsBytes, bodyBytes};
 ghost use Rattle.fused_answer.specs.Bodies.{total, bodiesAt, Stacked};
+ghost use Rattle.fused_answer.specs.Spots.{spotsFrom};
 
 // The places behind what is written: in bytes, and of its facets.
 pub struct Written {
     pub at: usize,
     pub facets: usize,
+}
+
+// Where the planes of f faces stand in m floats, one face behind another.
+pub fn plane_spots(counts: &[u64], f: usize, m: usize, spots: &mut [u64])
+    requires { ⌜ (f ≤ length (now counts)) × (f ≤ length (now spots)) × Within (countsAt (now counts) 0 f) 0 m ⌝ }
+    ensures { λ _. ⌜ now (spots .exit) ≡ sets (now (spots .entry)) 0 (spotsFrom 0 (countsAt (now (counts .entry)) 0 f)) ⌝ }
+{
+    let mut o = 0;
+    let mut i = 0;
+    while i < f {
+        let n = counts[i] as usize;
+        spots[i] = o as u64;
+        o += 12 + 3 * n;
+        i += 1;
+    }
 }
 
 // n corners of a cycle, from a on.
