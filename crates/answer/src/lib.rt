@@ -55,7 +55,7 @@ fn put_faces(places: &[u64], counts: &[u64], n: usize, out: &mut [u8], at: usize
     o
 }
 
-fn put_point(out: &mut [u8], at: usize, p: Point3)
+pub fn put_point(out: &mut [u8], at: usize, p: Point3)
     requires { ⌜ at + 24 ≤ length (now out) ⌝ }
     ensures { λ _. ⌜ now (out .exit) ≡ sets (now (out .entry)) at (pointBytes p) ⌝ }
 {
@@ -97,7 +97,7 @@ pub fn put_solid(
     put_faces(places, counts, n, out, at + 8 + 24 * m)
 }
 
-fn put_plane(out: &mut [u8], at: usize, w: Plane)
+pub fn put_plane(out: &mut [u8], at: usize, w: Plane)
     requires { ⌜ at + 96 ≤ length (now out) ⌝ }
     ensures { λ _. ⌜ now (out .exit) ≡ sets (now (out .entry)) at (planeBytes w) ⌝ }
 {

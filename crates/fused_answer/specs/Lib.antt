@@ -1,0 +1,7 @@
+pub mod Fused
+pub mod Growing
+pub mod Laws
+pub mod Bodies
+pub mod Lies
+pub mod Spots
+pub mod Size
