@@ -65,11 +65,11 @@ arrangement-facets t room cs a e sound =
 
 -- ---- of the slices
 
-all-get : (p : ℕ → Type 0) (l : List ℕ) (i : ℕ) → All p l → i < length l → p (getD l i 0)
+all-get : {A : Type 0} (p : A → Type 0) (l : List A) (i : ℕ) (d : A) → All p l → i < length l → p (getD l i d)
 unfolding All
-all-get p [] i a h = absurd (not-suc-le-zero h)
-all-get p (x ∷ l) zero a h = a .0
-all-get p (x ∷ l) (suc i) a h = all-get p l i (a .1) (le-of-suc-le-suc h)
+all-get p [] i d a h = absurd (not-suc-le-zero h)
+all-get p (x ∷ l) zero d a h = a .0
+all-get p (x ∷ l) (suc i) d a h = all-get p l i d (a .1) (le-of-suc-le-suc h)
 
 all-flat : (p : ℕ → Type 0) (fs : List (List ℕ)) → All (All p) fs → All p (flat fs)
 unfolding All flat
@@ -115,10 +115,14 @@ module _ {o : Outcome Arrangement} {p₀ : List Float} {c₀ s₀ w₀ : List �
         cuts = L .starts a e ∙ sets-eq (bounds 0 (a .cycles)) s₀ 0 h ∙ ap (λ i. bounds 0 (a .cycles) ++ drop i s₀) q;
       }
 
+  -- each of them has three vertices or more
+  pub cycles-wide : (i : ℕ) → i < r .facets → 3 ≤ length (getD (a .cycles) i [])
+  cycles-wide i h = all-get (λ f. 3 ≤ length f) (a .cycles) i [] (G .conforms .wide) (omega (arith, facets-many))
+
   -- each vertex is a point in the slice
   pub vertices-points : 3 * length (a .points) ≤ length p₀ → (i : ℕ) → i < length (take (r .vertices) c) → 3 * getD (take (r .vertices) c) i 0 + 3 ≤ length p
   vertices-points h i q =
-      let b : getD (take (r .vertices) c) i 0 < length (a .points) = all-get (λ x. x < length (a .points)) (take (r .vertices) c) i (subst (Below (length (a .points))) (sym vertices-are) (all-flat (λ x. x < length (a .points)) (a .cycles) (G .conforms .below))) q in
+      let b : getD (take (r .vertices) c) i 0 < length (a .points) = all-get (λ x. x < length (a .points)) (take (r .vertices) c) i 0 (subst (Below (length (a .points))) (sym vertices-are) (all-flat (λ x. x < length (a .points)) (a .cycles) (G .conforms .below))) q in
       omega (arith, b, h, ap length (L .points a e), length-sets p₀ 0 (floatsOf (a .points)))
 
   -- each facet's cell is one of k
@@ -126,4 +130,4 @@ module _ {o : Outcome Arrangement} {p₀ : List Float} {c₀ s₀ w₀ : List �
   owners-cells h i q =
       let m : r .facets ≡ length (a .owners) = facets-many ∙ sym (G .owned) in
       let u : take (r .facets) w ≡ a .owners = ap (take (r .facets)) (L .owners a e) ∙ front (a .owners) w₀ (r .facets) m (omega (arith, G .owned, G .many)) in
-      subst (λ x. x < k) (ap (λ l. getD l i 0) (sym u) ∙ getD-take (r .facets) w i 0 q) (all-get (λ x. x < k) (a .owners) i (G .owners) (omega (arith, m)))
+      subst (λ x. x < k) (ap (λ l. getD l i 0) (sym u) ∙ getD-take (r .facets) w i 0 q) (all-get (λ x. x < k) (a .owners) i 0 (G .owners) (omega (arith, m)))
