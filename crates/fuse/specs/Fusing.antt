@@ -1,14 +1,14 @@
 -- Fusing as one call: the facets meet, the cells of each body connect, and the bodies are listed.
-use mathlib.Core.Path.{_≡_, refl, sym, ap, ap₂, _∙_, subst}
+use mathlib.Core.Path.{_≡_, refl, sym, ap, _∙_, subst}
 use mathlib.Core.List.{List, [], _∷_}
-use Prim.Native.Nat.{ℕ, suc, _+_, _*_, _≤_, _<_}
+use Prim.Native.Nat.{ℕ, suc, _≤_}
 use native.Mathlib.Omega.{arith}
 use lib.Ieee.{Float}
-use lib.ListN.{length, getD, take}
+use lib.ListN.{length}
 use Rattle.refusal.specs.declared.Refusal.{Refusal}
 use Rattle.refusal.specs.declared.Verdict.{Verdict}
 use Rattle.refusal.specs.declared.Verdict.the-variants.{Fine, Refused}
-use Rattle.refusal.specs.Outcome.{Outcome, ok, refused, then, each, heard}
+use Rattle.refusal.specs.Outcome.{Outcome, each, heard}
 use Rattle.refusal.specs.Laws.{stop, go}
 use Rattle.sums.specs.Sum.{sum, sum-one, hit, occ, Each}
 use Rattle.sums.specs.Keys.{keep}
@@ -19,14 +19,14 @@ use Rattle.keys.specs.Rows.{Starts, rows}
 use Rattle.groups.specs.Groups.{Grouped}
 use Rattle.bodies.specs.Fusing.{Facet, Sense, cellOf, keys, checkFacets, exterior, facesOf, bodyOf, materials, fuse}
 use Rattle.bodies.specs.ListLaws.{spread, Valid, size, cells}
-use Rattle.interfaces.specs.Facets.{facetsOf, many-facets}
+use Rattle.interfaces.specs.Facets.{facetsOf}
 use Rattle.volume.specs.Shell.{Points}
 use Rattle.fusing.specs.Groups.{grouped-starts, grouped-rows}
 use Rattle.fusing.specs.Bench.{Cycles, Bench, few-listed}
 use Rattle.assembly.specs.declared.Fused.{Fused}
 use Rattle.parts.specs.declared.Parted.{Parted}
 use Rattle.assembly.specs.Answer.{Laid}
-use Rattle.parts.specs.Cells.{Places, Celled, Parting, valid-cells}
+use Rattle.parts.specs.Cells.{Celled, Parting, valid-cells}
 
 -- What an arrangement hands over: f facets of n cells, each a cycle of points.
 pub record Facetted (ps : List Float) (v starts owners : List ℕ) (f n : ℕ) : Type 0 where

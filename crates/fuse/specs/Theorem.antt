@@ -1,20 +1,19 @@
 -- What an answer of `fuse` tells: demand 3 of its bodies, and that its slices name facets of the arrangement.
 use mathlib.Core.Path.{_≡_, refl, sym, ap, _∙_, subst}
-use mathlib.Core.List.{List, [], _∷_, _++_, map}
+use mathlib.Core.List.{List, [], _∷_, map}
 use Prim.Native.Nat.{ℕ, zero, suc, _+_, _≤_, _<_}
 use native.Mathlib.Omega.{arith}
 use lib.ListN.{length, getD, length-append, length-map}
-use Rattle.refusal.specs.declared.Refusal.{Refusal}
 use Rattle.refusal.specs.declared.Verdict.{Verdict}
 use Rattle.refusal.specs.declared.Verdict.the-variants.{Fine, Refused}
 use Rattle.refusal.specs.Outcome.{Outcome, ok, refused}
-use Rattle.sums.specs.Sum.{sum, hit, occ, Each}
+use Rattle.sums.specs.Sum.{sum, hit, Each}
 use Rattle.sums.specs.Keys.{put, keep}
 use Rattle.sums.specs.KeyLaws.{sum-append, all-each, each-all, each-map, each-imp, each-append, lone-in}
 use Rattle.sums.specs.Components.{components}
 use Rattle.sums.specs.ComponentLaws.{Ascend, Components, components-found}
 use Rattle.groups.specs.Groups.{joined}
-use Rattle.bodies.specs.Fusing.{Facet, Sense, Bodies, keys, exterior, facesOf, runs, neighbors, shellsOf, bodyOf, materials, fuse}
+use Rattle.bodies.specs.Fusing.{Facet, Sense, Bodies, keys, facesOf, runs, neighbors, shellsOf, bodyOf, materials, fuse}
 use Rattle.bodies.specs.Passed.{made-each}
 use Rattle.bodies.specs.ListLaws.{Valid, size, answered, listed-weight, isOutward, isInward, outOf, inOf, BodyMade, body-made, edges-graph}
 use Rattle.bodies.specs.Demand.{Demand, demand}

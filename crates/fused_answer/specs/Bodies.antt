@@ -5,7 +5,7 @@ use Prim.Native.Nat.{ℕ, suc, _+_, _-_, _≤_, _<_}
 use native.Mathlib.Omega.{arith}
 use lib.Ieee.{Float}
 use lib.ListN.{length, getD, drop, take, length-append}
-use lib.Seq.{sets, length-sets, getD-take, getD-drop, length-take-le}
+use lib.Seq.{sets, length-sets, getD-take, getD-drop}
 use Rattle.sums.specs.Sum.{sum}
 use Rattle.words.specs.Little.{digits}
 use Rattle.room.specs.Rooms.{countsAt}

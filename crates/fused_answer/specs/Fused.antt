@@ -8,7 +8,6 @@ use Rattle.polygon.specs.Memory.{pointAt}
 use Rattle.room.specs.Rooms.{planeAt}
 use Rattle.words.specs.Little.{digits}
 use Rattle.job.specs.Written.{pointBytes}
-use Rattle.writer.specs.Rows.{row}
 use Rattle.keys.specs.Rows as K
 use Rattle.keys.specs.Rows.{Starts}
 use Rattle.volume.specs.Shell.{Points}

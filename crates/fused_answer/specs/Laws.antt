@@ -1,11 +1,11 @@
 -- Laws of the writer of fused bodies, in the words of the code.
-use mathlib.Core.Path.{_≡_, refl, sym, ap, ap₂, _∙_, subst}
+use mathlib.Core.Path.{_≡_, refl, sym, ap, ap₂, _∙_}
 use mathlib.Core.List.{List, [], _∷_, _++_, map, append-assoc}
 use Prim.Native.Nat.{ℕ, _+_, _-_, _*_, _≤_, _<_}
 use native.Mathlib.Omega.{arith}
 use lib.Ieee.{Float}
-use lib.ListN.{length, getD, set, drop, take, length-append, length-map}
-use lib.Seq.{sets, slice, length-slice}
+use lib.ListN.{length, getD, set, length-append, length-map}
+use lib.Seq.{sets, length-slice}
 use Rattle.space.specs.declared.Point3.{Point3}
 use Rattle.space.specs.declared.Plane.{Plane}
 use Rattle.words.specs.Little.{digits}

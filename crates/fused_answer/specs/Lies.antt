@@ -1,7 +1,7 @@
 -- Bodies that were written into slices (`assembly`, `Laid`) are the bodies that are read from them.
 use mathlib.Core.Path.{_≡_, refl, sym, ap, ap₂, _∙_, subst}
 use mathlib.Core.List.{List, [], _∷_, _++_, map, map-append}
-use Prim.Native.Nat.{ℕ, _+_, _≤_, _<_}
+use Prim.Native.Nat.{ℕ, _+_, _≤_}
 use native.Mathlib.Omega.{arith}
 use lib.ListN.{length, drop, take, length-append, length-map}
 use lib.Seq.{take-take, take-at, drop-at, take-add, take-length, drop-drop}

@@ -1,14 +1,14 @@
 -- The cells of each body: facets meet by their keys, and cells connect through the facets that they share.
-use mathlib.Core.Path.{_≡_, refl, sym, ap, ap₂, _∙_, subst}
-use mathlib.Core.List.{List, [], _∷_, map}
-use Prim.Native.Nat.{ℕ, _+_, _*_, _≤_, _<_}
+use mathlib.Core.Path.{_≡_, sym, ap, ap₂, _∙_, subst}
+use mathlib.Core.List.{List}
+use Prim.Native.Nat.{ℕ, _*_, _≤_, _<_}
 use native.Mathlib.Omega.{arith}
 use lib.ListN.{length, getD, take}
 use lib.Seq.{length-take-le}
 use Rattle.refusal.specs.declared.Refusal.{Refusal}
 use Rattle.refusal.specs.declared.Verdict.{Verdict}
 use Rattle.refusal.specs.declared.Verdict.the-variants.{Fine, Refused}
-use Rattle.refusal.specs.Outcome.{Outcome, ok, refused, heard}
+use Rattle.refusal.specs.Outcome.{heard}
 use Rattle.sums.specs.Sum.{Each}
 use Rattle.sums.specs.Keys.{pairs}
 use Rattle.sums.specs.KeyLaws.{each-map, each-imp, pairs-each, Sharing}
