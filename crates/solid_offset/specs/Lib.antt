@@ -1,3 +1,4 @@
 pub mod Entries
 pub mod Laws
 pub mod Short
+pub mod Whole
