@@ -213,7 +213,7 @@ const fn family(name: &'static str, make: fn(&mut Random) -> Job, fewer: usize) 
     Family { name, make, fewer }
 }
 
-pub const FAMILIES: [Family; 16] = [
+pub const FAMILIES: [Family; 17] = [
     family("boxes", |r| lattice(r.below(LATTICE)), 1),
     family(
         "prisms",
@@ -241,8 +241,21 @@ pub const FAMILIES: [Family; 16] = [
     family("about local thick", thin, 1),
     family("edges about local apart", edge_contact, 1),
     family("boxes far out", wide, 1),
+    family("64 faces", corner_of_many, 40),
     family("any", any, 4),
 ];
+
+/// A small box at a point of a solid of 64 faces: what is left of it may have more.
+fn corner_of_many(random: &mut Random) -> Job {
+    let first = match random.coin() {
+        true => prism(62, 1.0, 1.0),
+        false => gem(random, 64),
+    };
+    let at = random.pick(&first.points);
+    let size = random.pick(&[0.01, 0.1, 0.5]);
+    let second = cube(-1.0, 1.0).turned(random.signed());
+    Job::usual(first, second.scaled(size).shifted(at), operation(random))
+}
 
 /// Boxes of any size up to 2^20, where a cut point is seldom exact.
 fn wide(random: &mut Random) -> Job {
