@@ -213,7 +213,7 @@ const fn family(name: &'static str, make: fn(&mut Random) -> Job, fewer: usize) 
     Family { name, make, fewer }
 }
 
-pub const FAMILIES: [Family; 17] = [
+pub const FAMILIES: [Family; 18] = [
     family("boxes", |r| lattice(r.below(LATTICE)), 1),
     family(
         "prisms",
@@ -241,7 +241,8 @@ pub const FAMILIES: [Family; 17] = [
     family("about local thick", thin, 1),
     family("edges about local apart", edge_contact, 1),
     family("boxes far out", wide, 1),
-    family("64 faces", corner_of_many, 40),
+    family("64 faces", corner_of_many, 10),
+    family("coarse", coarse, 1),
     family("any", any, 4),
 ];
 
@@ -255,6 +256,35 @@ fn corner_of_many(random: &mut Random) -> Job {
     let size = random.pick(&[0.01, 0.1, 0.5]);
     let second = cube(-1.0, 1.0).turned(random.signed());
     Job::usual(first, second.scaled(size).shifted(at), operation(random))
+}
+
+/// Solids of size one, shifted and turned by a few times a great local: points and edges that nearly meet.
+fn coarse(random: &mut Random) -> Job {
+    let local = 1.0 / (1u64 << random.between(4, 7)) as f64;
+    let thin = local * random.pick(&[1.5, 2.0, 2.5, 3.0, 4.0]);
+    let mut pick = || match random.below(6) {
+        0 => cube(0.0, 1.0),
+        1 => tetrahedron(1.0),
+        2 => prism(random.between(3, 6), 1.0, 1.0),
+        3 => pyramid(random.between(3, 5), 1.0, 1.0),
+        4 => split_side(random),
+        _ => cuboid([0.0; 3], [1.0, 1.0, thin]),
+    };
+    let (first, second) = (pick(), pick());
+    let shares = [
+        -2.0, -1.5, -1.2, -0.9, -0.5, 0.0, 0.0, 0.5, 0.9, 1.2, 1.5, 2.0, 3.0, 8.0,
+    ];
+    let by = [(); 3].map(|()| local * random.pick(&shares));
+    let turn = local * random.pick(&[0.0, 0.0, 0.3, 0.6, 1.0, 2.0]) * random.signed();
+    Job {
+        tolerances: Tolerances {
+            linear: local / (1u64 << random.between(0, 12)) as f64,
+            local,
+        },
+        first,
+        second: second.turned(turn).shifted(by),
+        operation: operation(random),
+    }
 }
 
 /// Boxes of any size up to 2^20, where a cut point is seldom exact.
