@@ -1,13 +1,30 @@
 //! Questions for the library's calls: the bytes, the room in corners and the bytes of answer memory.
 use crate::random::Random;
 use oracle::{Call, CORNER_BYTES};
+use std::fmt;
 
-#[derive(Clone, Debug)]
+#[derive(Clone)]
 pub struct Question {
     pub call: Call,
     pub given: Vec<u8>,
     pub corners: usize,
     pub memory: usize,
+}
+
+/// Bytes as they are typed in.
+pub fn hex(bytes: &[u8]) -> String {
+    bytes.iter().map(|b| format!("{b:02x}")).collect()
+}
+
+impl fmt::Debug for Question {
+    fn fmt(&self, f: &mut fmt::Formatter) -> fmt::Result {
+        let (call, given) = (self.call, hex(&self.given));
+        let (corners, memory) = (self.corners, self.memory);
+        write!(
+            f,
+            "{call:?}, room {corners}, answer memory {memory}, given {given}"
+        )
+    }
 }
 
 /// The greatest room that is lent.
