@@ -198,7 +198,7 @@ unfolding sum
 sum-nothing [] = refl
 sum-nothing (c ∷ cs) = omega (arith, sum-nothing cs)
 
-spread : (f g : ℕ → ℕ) (cs : List (List ℕ)) (l : List ℕ) → Each (λ i. sum (occ (g i)) cs ≡ 1) l →
+pub spread : (f g : ℕ → ℕ) (cs : List (List ℕ)) (l : List ℕ) → Each (λ i. sum (occ (g i)) cs ≡ 1) l →
     sum (λ c. sum f (keep (λ i. occ (g i) c) l)) cs ≡ sum f l
 unfolding keep sum
 spread f g cs [] e = sum-nothing cs

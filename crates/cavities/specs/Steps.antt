@@ -51,7 +51,7 @@ pub record Shelled (v starts : List ℕ) (f : ℕ) (d c : List ℕ) (g : ℕ) : 
   pub upto : (k : ℕ) → k < g → getD c (k + 1) 0 ≤ getD c g 0
 
 -- a part of a slice, as it is lent
-part-slice : (a e : ℕ) (d : List ℕ) → a ≤ e → e ≤ length d → take (e - a) (drop a d) ≡ slice a e d
+pub part-slice : (a e : ℕ) (d : List ℕ) → a ≤ e → e ≤ length d → take (e - a) (drop a d) ≡ slice a e d
 part-slice a e d h l =
     let z : a + (e - a) ≡ e = omega arith in
     sym (drop-at (take a d) (take (e - a) (drop a d)) a (length-take-le a d (omega arith))) ∙ ap (drop a) (sym (take-add a (e - a) d)) ∙ ap (λ n. drop a (take n d)) z

@@ -26,10 +26,10 @@ use Rattle.listing.specs.Listed.{joined-both}
 use Rattle.fusing.specs.declared.Made.{Made}
 use Rattle.fusing.specs.Groups.{joined-split, next-cut, grouped-starts, last-cut, grouped-rows}
 
--- A body as it is written: its facets shell by shell, how many each shell has, and where the next body goes; or the refusal.
-unfoldable pub Bodied : Outcome (List (List ℕ)) → List ℕ → List ℕ → ℕ → ℕ → List ℕ → List ℕ → Made → Type 0
-Bodied (ok b) x₀ s₀ at sat x s r = (r ≡ record { verdict = Fine; facets = at + length (joined b); shells = sat + length b }) × (x ≡ appended x₀ at (joined b)) × (s ≡ appended s₀ sat (map length b))
-Bodied (refused e) x₀ s₀ at sat x s r = r .verdict ≡ Refused e
+-- A body of m facets as it is written: its facets shell by shell, how many each shell has, and where the next body goes; or the refusal.
+unfoldable pub Bodied : Outcome (List (List ℕ)) → ℕ → List ℕ → List ℕ → ℕ → ℕ → List ℕ → List ℕ → Made → Type 0
+Bodied (ok b) m x₀ s₀ at sat x s r = (r ≡ record { verdict = Fine; facets = at + length (joined b); shells = sat + length b }) × (x ≡ appended x₀ at (joined b)) × (s ≡ appended s₀ sat (map length b)) × (length (joined b) ≡ m) × (length b ≤ m)
+Bodied (refused e) m x₀ s₀ at sat x s r = r ≡ record { verdict = Refused e; facets = at; shells = sat }
 
 -- Each facet of a body is a row that is not empty.
 pub record Faced (v starts : List ℕ) (f : ℕ) (fl : List ℕ) : Type 0 where
@@ -91,10 +91,10 @@ module _ (v starts : List ℕ) (f : ℕ) (ends head next seen work fl d₀ c₀ 
       up k (suc n) e = omega (arith, shells-fine .up (k + 1) (omega arith), up (k + 1) n (omega arith))
 
   module _ (ps : List Float) (at sat o : ℕ) (x₀ s₀ : List ℕ) where
-    pub body-refused : (t : Verdict) (r : Refusal) (x s : List ℕ) (n : Made) → Ordered (volumeOf ps v starts) (rows d c g) t o → t ≡ Refused r → n .verdict ≡ t → Bodied (orderShells (volumeOf ps v starts) (namedShells fl ends)) x₀ s₀ at sat x s n
+    pub body-refused : (t : Verdict) (r : Refusal) (x s : List ℕ) (n : Made) → Ordered (volumeOf ps v starts) (rows d c g) t o → t ≡ Refused r → n ≡ record { verdict = t; facets = at; shells = sat } → Bodied (orderShells (volumeOf ps v starts) (namedShells fl ends)) (length fl) x₀ s₀ at sat x s n
     unfolding Ordered Bodied
     body-refused Fine r x s n p e q = absurd (let z : _≡_ {A = ℕ} 0 1 = cc in omega arith)
-    body-refused (Refused y) r x s n p e q = subst (λ u. Bodied u x₀ s₀ at sat x s n) (sym p ∙ ap (orderShells (volumeOf ps v starts)) (grouped-rows (namedShells fl ends) d₀ c₀ d c g w)) q
+    body-refused (Refused y) r x s n p e q = subst (λ u. Bodied u (length fl) x₀ s₀ at sat x s n) (sym p ∙ ap (orderShells (volumeOf ps v starts)) (grouped-rows (namedShells fl ends) d₀ c₀ d c g w)) q
 
     pub body-outer : (t : Verdict) → Ordered (volumeOf ps v starts) (rows d c g) t o → t ≡ Fine → o < g
     unfolding Ordered
@@ -119,12 +119,12 @@ module _ (v starts : List ℕ) (f : ℕ) (ends head next seen work fl d₀ c₀ 
     )
 
     pub body-made : (t : Verdict) (x s : List ℕ) → Ordered (volumeOf ps v starts) (rows d c g) t o → t ≡ Fine → x ≡ appended x₀ at (joined (outerOf (rows d c g) o)) → s ≡ appended s₀ sat (map length (outerOf (rows d c g) o)) →
-        Bodied (orderShells (volumeOf ps v starts) (namedShells fl ends)) x₀ s₀ at sat x s (record { verdict = Fine; facets = at + length fl; shells = sat + g })
+        Bodied (orderShells (volumeOf ps v starts) (namedShells fl ends)) (length fl) x₀ s₀ at sat x s (record { verdict = Fine; facets = at + length fl; shells = sat + g })
     unfolding Ordered Bodied
     body-made (Refused y) x s p e q r = absurd (let z : _≡_ {A = ℕ} 0 1 = cc in omega arith)
     body-made Fine x s p e q r =
         let same = grouped-rows (namedShells fl ends) d₀ c₀ d c g w in
         let n : length (joined (outerOf (rows d c g) o)) ≡ length fl = outer-joined (rows d c g) (p .0) ∙ ap (λ l. length (joined l)) same ∙ size in
         let k : length (outerOf (rows d c g) o) ≡ g = outer-long (rows d c g) (p .0) ∙ ap length same ∙ sym (w .many) in
-        subst (λ u. Bodied u x₀ s₀ at sat x s (record { verdict = Fine; facets = at + length fl; shells = sat + g })) (sym (p .1) ∙ ap (orderShells (volumeOf ps v starts)) same)
-        (ap₂ (λ a b. record { verdict = Fine; facets = at + a; shells = sat + b }) (sym n) (sym k), q, r)
+        subst (λ u. Bodied u (length fl) x₀ s₀ at sat x s (record { verdict = Fine; facets = at + length fl; shells = sat + g })) (sym (p .1) ∙ ap (orderShells (volumeOf ps v starts)) same)
+        (ap₂ (λ a b. record { verdict = Fine; facets = at + a; shells = sat + b }) (sym n) (sym k), q, r, n, omega (arith, few-shells, k))

@@ -1,3 +1,5 @@
 pub mod Groups
 pub mod Bodied
 pub mod Body
+pub mod Bench
+pub mod Whole

@@ -90,7 +90,7 @@ module _ (t : Precision) (f : Face) (to : ℕ) (d₀ d : List Float) (v : Verdic
   unfolding reversedFace FaceMoved
   face-stays r p u s = subst (λ y. FaceMoved (then y (λ w. ok (record { plane = w; points = reverse (f .points) }))) to d₀ d v) (sym p) (u, s)
 
-reversed-corners : (t : Precision) (f g : Face) → reversedFace t f ≡ ok g → length (g .points) ≡ length (f .points)
+pub reversed-corners : (t : Precision) (f g : Face) → reversedFace t f ≡ ok g → length (g .points) ≡ length (f .points)
 unfolding reversedFace
 reversed-corners t f g e =
     let h = then-ok (oppositeOf t (f .plane)) (λ w. ok (record { plane = w; points = reverse (f .points) })) g e in

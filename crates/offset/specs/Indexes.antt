@@ -1,7 +1,7 @@
 -- Laws of `indexed` that an offset needs: how many points and places there are, and that they are read back from their slices.
 use mathlib.Core.Path.{_≡_, refl, sym, ap, _∙_}
 use mathlib.Core.Bool.{Bool, true, false}
-use mathlib.Core.List.{List, [], _∷_, _++_, append-assoc, append-nil}
+use mathlib.Core.List.{List, [], _∷_, _++_, append-assoc, append-nil, map}
 use Prim.Native.Nat.{ℕ, _+_, _*_, _≤_}
 use native.Mathlib.Omega.{arith}
 use lib.ListN.{length, take, drop, length-append, length-take}
@@ -42,8 +42,7 @@ points-few find (q ∷ l) a b e =
     (omega (arith, r .0, u), omega (arith, r .1, v))
 
 abbrev lengths : List (List ℕ) → List ℕ
-lengths [] = []
-lengths (f ∷ l) = length f ∷ lengths l
+lengths l = map length l
 
 lengths-snoc : (l : List (List ℕ)) (f : List ℕ) → lengths (l ++ (f ∷ [])) ≡ lengths l ++ (length f ∷ [])
 lengths-snoc [] f = refl
@@ -96,6 +95,10 @@ unfolding cellCounts
 cell-total [] = sym corners-none
 cell-total (f ∷ c) = ap (λ x. length (f .points) + x) (cell-total c) ∙ sym (corners-cons f c)
 
+-- cells with the same numbers of corners have as many
+pub corners-same : (a b : Cell) → cellCounts a ≡ cellCounts b → corners 0 a ≡ corners 0 b
+corners-same a b e = sym (cell-total a) ∙ ap total e ∙ cell-total b
+
 -- ---- the cell in its room
 
 pub cell-counts : (s : List Float) (at : ℕ) (ns : List ℕ) → cellCounts (cellAt s at ns) ≡ ns
@@ -132,12 +135,15 @@ pub indexed-few : (t : Precision) (c : Cell) (s : Solid) → indexed t c ≡ ok 
 unfolding indexed
 indexed-few t c s e = omega (arith, faces-few (first t) c (record { points = []; faces = [] }) s e .1)
 
+pub indexed-counts : (t : Precision) (c : Cell) (s : Solid) → indexed t c ≡ ok s → map length (s .faces) ≡ cellCounts c
+unfolding indexed
+indexed-counts t c s e = faces-few (first t) c (record { points = []; faces = [] }) s e .0
+
 pub indexed-points : (p : List Float) (l : List Point3) (m n : ℕ) → m ≡ length l → length l ≤ n → 3 * n ≤ length p → pointsAt (sets p 0 (floatsOf l)) 0 m ≡ l
 indexed-points p l m n e h g = ap (pointsAt (sets p 0 (floatsOf l)) 0) e ∙ points-stored p l (omega arith)
 
 pub indexed-faces : (t : Precision) (f : List Float) (at : ℕ) (ns : List ℕ) (s : Solid) (i : List ℕ) → indexed t (cellAt f at ns) ≡ ok s → corners 0 (cellAt f at ns) ≤ length i → facesAt (sets i 0 (flat (s .faces))) 0 ns ≡ s .faces
-unfolding indexed
 indexed-faces t f at ns s i e h =
-    let l : lengths (s .faces) ≡ ns = faces-few (first t) (cellAt f at ns) (record { points = []; faces = [] }) s e .0 ∙ cell-counts f at ns in
+    let l : lengths (s .faces) ≡ ns = indexed-counts t (cellAt f at ns) s e ∙ cell-counts f at ns in
     let w : 0 + length (flat (s .faces)) ≤ length i = omega (arith, flat-total (s .faces), ap total (l ∙ sym (cell-counts f at ns)), cell-total (cellAt f at ns)) in
     ap (facesAt (sets i 0 (flat (s .faces))) 0) (sym l) ∙ ap (λ z. facesAt z 0 (lengths (s .faces))) (sets-eq (flat (s .faces)) i 0 w) ∙ faces-back [] (s .faces) (drop (0 + length (flat (s .faces))) i) 0 refl

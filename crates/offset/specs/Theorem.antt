@@ -1,10 +1,10 @@
 -- What holds whenever an offset answers: no moved corner is certified Positive against a moved plane, and each residual lies inside the tube.
 use mathlib.Core.Path.{_≡_, refl, sym, ap, _∙_, subst}
 use mathlib.Core.Bool.{Bool, true, false, not, _||_}
-use mathlib.Core.List.{List, [], _∷_, _++_, append-assoc, append-nil}
+use mathlib.Core.List.{List, [], _∷_, _++_, append-assoc, append-nil, map}
 use Prim.Native.Nat.{ℕ, suc}
 use native.Mathlib.Omega.{arith}
-use lib.ListN.{length}
+use lib.ListN.{length, length-map, replicate, length-replicate}
 use lib.Dec.{eqb}
 use lib.Ieee.{Float}
 use borrow.Author.Tests.{eqb-true, not-false}
@@ -16,17 +16,21 @@ use Rattle.refusal.specs.Outcome.{ok, then, each, heard}
 use Rattle.space.specs.declared.Point3.{Point3}
 use Rattle.space.specs.declared.Precision.{Precision}
 use Rattle.space.specs.Vector.{subV, addV, crossV}
-use Rattle.space.specs.Shapes.{Cell, Solid}
+use Rattle.space.specs.Shapes.{Face, Cell, Solid}
 use Rattle.side.specs.declared.Side.the-variants as S
 use Rattle.side.specs.Sides.{sideOf}
 use Rattle.polygon.specs.Members.{All, same-ok, never-ok, then-ok}
+use Rattle.room.specs.Rooms.{cellCounts}
+use Rattle.room.specs.Laws.{length-cellCounts}
 use Rattle.room.specs.Steps.{unless-ok}
 use Rattle.indexed.specs.Indexed.{indexed}
+use Rattle.solids.specs.Frames.{pointOf}
 use Rattle.bounds.specs.Bounds.{against}
 use Rattle.bounds.specs.Laws.{against-not-positive}
 use Rattle.shift.specs.declared.Push.{Push}
-use Rattle.shift.specs.Shifts.{meeting, deltaOf, residual, outside, movedTo, flat, movedBy, movedAt}
-use Rattle.offset.specs.Offsets.{Moving, moving, pushes, movePoints, moveFace, notCrossed, moveAll, offsetDistances}
+use Rattle.shift.specs.Shifts.{meeting, deltaOf, residual, outside, movedTo, flat, movedBy, movedAt, movedPlane}
+use Rattle.offset.specs.Offsets.{Moving, moving, pushes, movePoints, moveFace, notCrossed, moveAll, offsetDistances, offsetCell}
+use Rattle.offset.specs.Indexes.{indexed-counts}
 
 -- ---- one point
 
@@ -115,3 +119,42 @@ offset-answered t ds c e h =
       faces = w .1 ∙ ap ok (y .1);
       under = against-not-positive t e e (ap (λ z. against false t z z) (sym (y .1)) ∙ y .0);
     }
+
+-- ---- each moved face has as many corners
+
+sizes : List Moving → List ℕ
+sizes [] = []
+sizes (m ∷ ms) = length (m .places) ∷ sizes ms
+
+counts-snoc : (c : Cell) (f : Face) → cellCounts (c ++ (f ∷ [])) ≡ cellCounts c ++ (length (f .points) ∷ [])
+unfolding cellCounts
+counts-snoc [] f = refl
+counts-snoc (g ∷ c) f = ap (λ l. length (g .points) ∷ l) (counts-snoc c f)
+
+moved-sizes : (t : Precision) (qs : List Point3) (ms : List Moving) (before e : Cell) → each (moveFace t qs) before ms ≡ ok e → cellCounts e ≡ cellCounts before ++ sizes ms
+unfolding each moveFace sizes
+moved-sizes t qs [] before e h = ap cellCounts (sym (same-ok h)) ∙ sym (append-nil (cellCounts before))
+moved-sizes t qs (m ∷ ms) before e h =
+    let f = then-ok (moveFace t qs m) (λ y. each (moveFace t qs) (before ++ (y ∷ [])) ms) e h in
+    let g = then-ok (movedPlane t (m .face .plane) (m .by)) (λ w. ok (record { plane = w; points = map (pointOf qs) (m .places) })) (f .0) (f .1) in
+    let l : length (f .0 .points) ≡ length (m .places) = ap (λ x. length (x .points)) (sym (same-ok (g .2))) ∙ length-map (m .places) (pointOf qs) in
+    moved-sizes t qs ms (before ++ (f .0 ∷ [])) e (f .2)
+    ∙ ap (λ x. x ++ sizes ms) (counts-snoc before (f .0))
+    ∙ append-assoc (cellCounts before) (length (f .0 .points) ∷ []) (sizes ms)
+    ∙ ap (λ x. cellCounts before ++ (x ∷ sizes ms)) l
+
+moving-sizes : (c : Cell) (is : List (List ℕ)) (ds : List Float) → length is ≡ length c → length ds ≡ length c → sizes (moving c is ds) ≡ map length is
+unfolding moving sizes
+moving-sizes [] [] ds e h = refl
+moving-sizes [] (i ∷ is) ds e h = absurd (omega (arith, e))
+moving-sizes (f ∷ c) [] ds e h = absurd (omega (arith, e))
+moving-sizes (f ∷ c) (i ∷ is) [] e h = absurd (omega (arith, h))
+moving-sizes (f ∷ c) (i ∷ is) (d ∷ ds) e h = ap (λ l. length i ∷ l) (moving-sizes c is ds (omega (arith, e)) (omega (arith, h)))
+
+pub offset-counts : (t : Precision) (d : Float) (c e : Cell) → offsetCell t d c ≡ ok e → cellCounts e ≡ cellCounts c
+unfolding offsetCell cellCounts
+offset-counts t d c e h =
+    let a = offset-answered t (replicate (length c) d) c e h in
+    let n = indexed-counts t c (a .solid) (a .is) in
+    let l : length (a .solid .faces) ≡ length c = sym (length-map (a .solid .faces) length) ∙ ap length n ∙ length-cellCounts c in
+    moved-sizes t (a .points) (moving c (a .solid .faces) (replicate (length c) d)) [] e (a .faces) ∙ moving-sizes c (a .solid .faces) (replicate (length c) d) l (length-replicate (length c) d) ∙ n

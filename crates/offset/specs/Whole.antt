@@ -65,7 +65,7 @@ module _ (n : ℕ) (d₀ : List Float) (to : ℕ) (n₀ : List ℕ) (k : ℕ) (d
 
   -- the moved cell is read back
   module _ (c : Cell) (v : Verdict) (h : CellMoved (ok c) n d₀ to n₀ k d ns v) (slots : k + n ≤ length n₀) where
-    counts-are : countsAt ns k n ≡ cellCounts c
+    pub counts-are : countsAt ns k n ≡ cellCounts c
     unfolding CellMoved
     counts-are =
         let e : n ≡ length (cellCounts c) = sym (length-cellCounts c ∙ h .3) in
@@ -75,7 +75,7 @@ module _ (n : ℕ) (d₀ : List Float) (to : ℕ) (n₀ : List ℕ) (k : ℕ) (d
     unfolding CellMoved
     inside = omega (arith, length-cellFloats c, h .3, h .4)
 
-    cell-is : cellAt d to (countsAt ns k n) ≡ c
+    pub cell-is : cellAt d to (countsAt ns k n) ≡ c
     unfolding CellMoved
     cell-is = ap (cellAt d to) counts-are ∙ ap (λ l. cellAt l to (cellCounts c)) (h .1) ∙ cell-stored d₀ to c inside
 

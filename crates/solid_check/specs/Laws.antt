@@ -144,7 +144,7 @@ after-ok D.Fine o a e = (refl, e)
 after-ok (D.Refused r) o a e = never-ok e
 
 -- an answer says that every test before it came out fine
-check-passed : (counted : Bool) (t : Precision) (s : Solid) (c : Cell) → check counted t s ≡ ok c → (shaped t (s .points) (s .faces) ≡ D.Fine) × (cellOf t s ≡ ok c)
+pub check-passed : (counted : Bool) (t : Precision) (s : Solid) (c : Cell) → check counted t s ≡ ok c → (shaped t (s .points) (s .faces) ≡ D.Fine) × (cellOf t s ≡ ok c)
 unfolding check
 check-passed counted t s c e =
     let a = unless-ok (not (fairAll (s .points))) 2 _ c e in

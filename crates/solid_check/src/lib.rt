@@ -104,7 +104,7 @@ fn put_face(
 }
 
 // The n faces, up to the first that has no plane.
-fn put_faces(
+pub fn put_faces(
     t: Precision,
     points: &[f64],
     m: usize,

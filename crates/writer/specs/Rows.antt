@@ -24,10 +24,10 @@ pub record Rowing {A : Type 0} (e : A → List ℕ) (w : ℕ) (l : List A) (out�
   pub same : length out ≡ length out₀
   pub whole : sets out (at + w * i) (row e (drop i l)) ≡ sets out₀ at (row e l)
 
-rowing-start : {A : Type 0} (e : A → List ℕ) (w : ℕ) (l : List A) (out : List ℕ) (at : ℕ) → Rowing e w l out at out 0
+pub rowing-start : {A : Type 0} (e : A → List ℕ) (w : ℕ) (l : List A) (out : List ℕ) (at : ℕ) → Rowing e w l out at out 0
 rowing-start e w l out at = record { same = refl; whole = ap (λ k. sets out k (row e l)) (ap (λ k. at + k) (mul-zero w) ∙ add-zero at) }
 
-rowing-turn : {A : Type 0} (e : A → List ℕ) (w : ℕ) (l : List A) (out₀ : List ℕ) (at : ℕ) (out : List ℕ) (i : ℕ) (x : A) (out′ : List ℕ) → Rowing e w l out₀ at out i →
+pub rowing-turn : {A : Type 0} (e : A → List ℕ) (w : ℕ) (l : List A) (out₀ : List ℕ) (at : ℕ) (out : List ℕ) (i : ℕ) (x : A) (out′ : List ℕ) → Rowing e w l out₀ at out i →
     drop i l ≡ x ∷ drop (i + 1) l → length (e x) ≡ w → out′ ≡ sets out (at + w * i) (e x) → Rowing e w l out₀ at out′ (i + 1)
 unfolding row
 rowing-turn e w l out₀ at out i x out′ v d n q =
@@ -39,7 +39,7 @@ rowing-turn e w l out₀ at out i x out′ v d n q =
           ∙ sets-append out (at + w * i) (e x) (row e (drop (i + 1) l)) ∙ ap (λ y. sets out (at + w * i) (row e y)) (sym d) ∙ v .whole;
     }
 
-rowing-end : {A : Type 0} (e : A → List ℕ) (w : ℕ) (l : List A) (out₀ : List ℕ) (at : ℕ) (out : List ℕ) (i : ℕ) → Rowing e w l out₀ at out i → drop i l ≡ [] → out ≡ sets out₀ at (row e l)
+pub rowing-end : {A : Type 0} (e : A → List ℕ) (w : ℕ) (l : List A) (out₀ : List ℕ) (at : ℕ) (out : List ℕ) (i : ℕ) → Rowing e w l out₀ at out i → drop i l ≡ [] → out ≡ sets out₀ at (row e l)
 unfolding row
 rowing-end e w l out₀ at out i v d = sym (ap (λ y. sets out (at + w * i) (row e y)) d) ∙ v .whole
 

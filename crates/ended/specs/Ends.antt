@@ -1,0 +1,26 @@
+-- How a call ends: "A refusal hands back its number and no bodies", "Answer memory past the answer is untouched". Definitions only.
+use mathlib.Core.Path.{_≡_}
+use mathlib.Core.List.{List}
+use Prim.Native.Nat.{ℕ}
+use lib.ListN.{length}
+use lib.Seq.{sets}
+use lib.Dec.{ltb}
+use Rattle.refusal.specs.declared.Refusal.{Refusal}
+use Rattle.refusal.specs.declared.Verdict.the-variants.{Fine, Refused}
+use Rattle.refusal.specs.Outcome.{Outcome, ok, refused, then, unless}
+use Rattle.ended.specs.declared.Ended.{Ended}
+
+-- 12 where the answer's bytes are more than the memory lent for them
+unfoldable pub fitted : ℕ → Outcome (List ℕ) → Outcome (List ℕ)
+fitted room o = then o (λ l. unless (ltb room (length l)) 12 (ok l))
+
+abbrev pub answered : ℕ → Ended
+answered n = record { verdict = Fine; bytes = n }
+
+abbrev pub stopped : Refusal → Ended
+stopped r = record { verdict = Refused r; bytes = 0 }
+
+-- the answer stands at the front of its memory; a refusal leaves it as it came
+unfoldable pub Handed : Outcome (List ℕ) → List ℕ → List ℕ → Ended → Type 0
+Handed (ok l) a₀ a r = (r ≡ answered (length l)) × (a ≡ sets a₀ 0 l)
+Handed (refused x) a₀ a r = (r ≡ stopped x) × (a ≡ a₀)
