@@ -4,7 +4,7 @@ use mathlib.Core.List.{[], _∷_}
 use lib.IntN.{pos, negsuc}
 use lib.Ieee.{Float, fin}
 use Rattle.space.specs.declared.Plane.{Plane}
-use Rattle.space.specs.Shapes.{Cell}
+use Rattle.space.specs.Shapes.{Cell, Solid}
 use Rattle.worked.specs.Shapes.{pt, n0, n1, m0, m1, plane, face, planeX}
 
 -- 1/2 and 3/2; the distances -1/2, -1 and -2
@@ -46,3 +46,10 @@ movedBox a b =
     ∷ face (lowX a) (pt a a a ∷ pt a a b ∷ pt a b b ∷ pt a b a ∷ [])
     ∷ face (planeX b) (pt b a a ∷ pt b b a ∷ pt b b b ∷ pt b a b ∷ [])
     ∷ []
+
+-- the points of that box in `indexed` order, and its faces by their places
+abbrev pub solidBox : Float → Float → Solid
+solidBox a b = record {
+  points = pt a a a ∷ pt a b a ∷ pt b b a ∷ pt b a a ∷ pt a a b ∷ pt b a b ∷ pt b b b ∷ pt a b b ∷ [];
+  faces = (0 ∷ 1 ∷ 2 ∷ 3 ∷ []) ∷ (4 ∷ 5 ∷ 6 ∷ 7 ∷ []) ∷ (0 ∷ 3 ∷ 5 ∷ 4 ∷ []) ∷ (1 ∷ 7 ∷ 6 ∷ 2 ∷ []) ∷ (0 ∷ 4 ∷ 7 ∷ 1 ∷ []) ∷ (3 ∷ 2 ∷ 6 ∷ 5 ∷ []) ∷ [];
+}
