@@ -10,6 +10,8 @@ fn main() {
         "cut_leaves",
         "mesh_leaf",
         "solid_leaves",
+        "solid_offset",
+        "solid_mesh",
     ] {
         let archive = native.join(format!("lib{name}.a"));
         assert!(

@@ -1,4 +1,5 @@
 //! The port's speed beside the Rust's, in one run: nanoseconds for a call, and the ratio.
+mod calls;
 mod cutting;
 mod numbers;
 mod same;
@@ -14,4 +15,5 @@ fn main() {
     cutting::clips();
     cutting::meshes();
     solids::checks();
+    calls::moves();
 }

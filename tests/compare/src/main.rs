@@ -2,6 +2,7 @@
 //! compare [--seed N] [--scale N] [--share N] [--only LAYER]: another seed, N times as many questions, an N-th of them,
 //! the questions of one layer alone.
 mod bits;
+mod calls;
 mod cutting;
 mod mesh;
 mod numbers;
@@ -41,12 +42,15 @@ impl Scale {
 type Layer = fn(&mut Report, u64, Scale);
 
 /// Each layer's name, what it asks, and what is added to the seed.
-const LAYERS: [(&str, Layer, u64); 5] = [
+const LAYERS: [(&str, Layer, u64); 8] = [
     ("numbers", numbers::compare, 0),
     ("vectors", vectors::compare, 100),
     ("cutting", cutting::compare, 200),
     ("mesh", mesh::compare, 300),
     ("solids", solids::compare, 400),
+    ("offset", calls::offset, 600),
+    ("hollow", calls::hollow, 700),
+    ("mesh-call", calls::mesh, 900),
 ];
 
 fn main() {

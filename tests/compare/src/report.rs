@@ -35,7 +35,7 @@ impl Report {
                 }
             }
         }
-        println!("{name:<28} {asked:>9} asked {differ:>6} differ");
+        println!("{name:<36} {asked:>9} asked {differ:>6} differ");
         self.lines.push((name.to_string(), asked, differ));
     }
 

@@ -1,7 +1,7 @@
 //! Damaged files: what 1, 2, 3 and 4 are given for, and what comes close to it.
 use crate::random::Random;
 use crate::solid::{add, cube, prism, scale, Reshape};
-use oracle::{join, Job, Record, Solid, Tolerances};
+use oracle::{join, CellFile, FacetFile, Job, Record, Solid, Tolerances};
 
 /// A file cut short at every length, the whole file not included.
 pub fn cut_short(bytes: &[u8]) -> impl Iterator<Item = &[u8]> {
@@ -156,17 +156,49 @@ pub fn any_solid(random: &mut Random, solid: &Solid, t: &Tolerances) -> Solid {
     }
 }
 
-/// A job with one solid damaged, or its bytes.
+/// A job with one solid, its tolerances or its bytes damaged.
 pub fn any(random: &mut Random, job: &Job) -> Vec<u8> {
     let mut job = job.clone();
-    match random.below(6) {
-        0 => return other_kind(random, &job.records()),
-        1 => return misplaced(random, &job.records()),
-        2 => return other_byte(random, &job.bytes()),
-        3 => job.first = any_solid(random, &job.first, &job.tolerances),
+    match random.below(8) {
+        0..=2 => return any_file(random, &job.records()),
+        3 => {
+            let all = other_tolerances();
+            job.tolerances = all[random.below(all.len())];
+        }
+        4 | 5 => job.first = any_solid(random, &job.first, &job.tolerances),
         _ => job.second = any_solid(random, &job.second, &job.tolerances),
     }
     job.bytes()
+}
+
+/// Records or bytes damaged, or the file cut short.
+fn any_file(random: &mut Random, records: &[Record]) -> Vec<u8> {
+    let bytes = join(records);
+    match random.below(4) {
+        0 => other_kind(random, records),
+        1 => misplaced(random, records),
+        2 => other_byte(random, &bytes),
+        _ => bytes[..random.below(bytes.len())].to_vec(),
+    }
+}
+
+/// A cell with its solid, its tolerances or its bytes damaged.
+pub fn any_cell(random: &mut Random, cell: &CellFile) -> Vec<u8> {
+    let mut cell = cell.clone();
+    match random.below(8) {
+        0..=2 => return any_file(random, &cell.records()),
+        3 => {
+            let all = other_tolerances();
+            cell.tolerances = all[random.below(all.len())];
+        }
+        _ => cell.solid = any_solid(random, &cell.solid, &cell.tolerances),
+    }
+    cell.bytes()
+}
+
+/// A facet's bytes damaged.
+pub fn any_facet(random: &mut Random, facet: &FacetFile) -> Vec<u8> {
+    any_file(random, &facet.records())
 }
 
 /// Solids past the counts, and at their ends: 64 and 65 faces, 128 and 129 points, corners 2 to 65.

@@ -284,6 +284,10 @@ fn skewed(random: &mut Random) -> FacetFile {
         }
         _ => plane[3 + random.below(9)] = random.pick(&[0.0, 1.0, -1.0]),
     }
+    if random.below(4) == 0 {
+        // the plane is judged before the number of corners
+        f.facet.points.truncate(random.below(4));
+    }
     f
 }
 

@@ -1,6 +1,6 @@
 //! Families of jobs.
 use crate::random::Random;
-use crate::solid::{ball, cube, cuboid, gem, prism, tetrahedron, Reshape};
+use crate::solid::{ball, cube, cuboid, gem, prism, pyramid, split_box, tetrahedron, Reshape};
 use oracle::{Job, Operation, Point, Solid, Tolerances};
 
 /// How [c, d] can lie to [0, 3]: one for each relation of two ranges.
@@ -200,4 +200,194 @@ pub fn any(random: &mut Random) -> Job {
         7 => overlapping(random, 24),
         _ => overlapping(random, 10),
     }
+}
+
+/// A family of jobs: its name, how it is made, and how many times fewer are asked, where they take long.
+pub struct Family {
+    pub name: &'static str,
+    pub make: fn(&mut Random) -> Job,
+    pub fewer: usize,
+}
+
+const fn family(name: &'static str, make: fn(&mut Random) -> Job, fewer: usize) -> Family {
+    Family { name, make, fewer }
+}
+
+pub const FAMILIES: [Family; 18] = [
+    family("boxes", |r| lattice(r.below(LATTICE)), 1),
+    family(
+        "prisms",
+        |r| both(r, |r| prism(r.between(3, 9), 1.0, 1.0)),
+        2,
+    ),
+    family(
+        "tetrahedra",
+        |r| both(r, |r| tetrahedron(1.0 + r.unit())),
+        1,
+    ),
+    family("20 faces", |r| both(r, |r| gem(r, 20)), 20),
+    family(
+        "pyramids",
+        |r| both(r, |r| pyramid(r.between(3, 8), 1.0, 1.0 + r.unit())),
+        2,
+    ),
+    family("split sides", |r| both(r, split_side), 2),
+    family("slivers", |r| both(r, sliver), 1),
+    family("touching", touching, 1),
+    family("apart", |r| beside(r, 0.25), 1),
+    family("nested", nested, 4),
+    family("a gap of about local", gap, 1),
+    family("turned by about local", |r| turned(r, 10), 4),
+    family("about local thick", thin, 1),
+    family("edges about local apart", edge_contact, 1),
+    family("boxes far out", wide, 1),
+    family("64 faces", corner_of_many, 10),
+    family("coarse", coarse, 1),
+    family("any", any, 4),
+];
+
+/// A small box at a point of a solid of 64 faces: what is left of it may have more.
+fn corner_of_many(random: &mut Random) -> Job {
+    let first = match random.coin() {
+        true => prism(62, 1.0, 1.0),
+        false => gem(random, 64),
+    };
+    let at = random.pick(&first.points);
+    let size = random.pick(&[0.01, 0.1, 0.5]);
+    let second = cube(-1.0, 1.0).turned(random.signed());
+    Job::usual(first, second.scaled(size).shifted(at), operation(random))
+}
+
+/// Solids of size one, shifted and turned by a few times a great local: points and edges that nearly meet.
+fn coarse(random: &mut Random) -> Job {
+    let local = 1.0 / (1u64 << random.between(4, 7)) as f64;
+    let thin = local * random.pick(&[1.5, 2.0, 2.5, 3.0, 4.0]);
+    let mut pick = || match random.below(6) {
+        0 => cube(0.0, 1.0),
+        1 => tetrahedron(1.0),
+        2 => prism(random.between(3, 6), 1.0, 1.0),
+        3 => pyramid(random.between(3, 5), 1.0, 1.0),
+        4 => split_side(random),
+        _ => cuboid([0.0; 3], [1.0, 1.0, thin]),
+    };
+    let (first, second) = (pick(), pick());
+    let shares = [
+        -2.0, -1.5, -1.2, -0.9, -0.5, 0.0, 0.0, 0.5, 0.9, 1.2, 1.5, 2.0, 3.0, 8.0,
+    ];
+    let by = [(); 3].map(|()| local * random.pick(&shares));
+    let turn = local * random.pick(&[0.0, 0.0, 0.3, 0.6, 1.0, 2.0]) * random.signed();
+    Job {
+        tolerances: Tolerances {
+            linear: local / (1u64 << random.between(0, 12)) as f64,
+            local,
+        },
+        first,
+        second: second.turned(turn).shifted(by),
+        operation: operation(random),
+    }
+}
+
+/// Boxes of any size up to 2^20, where a cut point is seldom exact.
+fn wide(random: &mut Random) -> Job {
+    let mut boxed = || {
+        let size = random.pick(&[1.0, 1e3, 1e6]);
+        let (low, high) = (around(random, size), around(random, size));
+        let of = |pick: fn(f64, f64) -> f64| std::array::from_fn(|i| pick(low[i], high[i]));
+        cuboid(of(f64::min), of(f64::max))
+    };
+    let (first, second) = (boxed(), boxed());
+    let tight = 1.0 / (1u64 << 40) as f64;
+    Job {
+        tolerances: match random.coin() {
+            true => tolerances(random),
+            false => Tolerances {
+                linear: tight,
+                local: tight,
+            },
+        },
+        first,
+        second,
+        operation: operation(random),
+    }
+}
+
+/// Two solids of one family, the second turned and shifted into the first.
+fn both(random: &mut Random, solid: fn(&mut Random) -> Solid) -> Job {
+    let (first, second) = (solid(random), solid(random));
+    let by = around(random, 0.6);
+    let turn = random.pick(&[0.0, 0.0, 0.5, 1.0]) * random.signed();
+    Job {
+        tolerances: tolerances(random),
+        first,
+        second: second.turned(turn).shifted(by),
+        operation: operation(random),
+    }
+}
+
+/// A box with a side of two faces.
+pub fn split_side(random: &mut Random) -> Solid {
+    let high = [(); 3].map(|()| 0.5 + random.unit());
+    let share = random.pick(&[0.5, 0.25, 0.9]);
+    split_box([-0.5; 3], high, share)
+}
+
+/// A wedge, a box or a prism that is thin in one direction.
+pub fn sliver(random: &mut Random) -> Solid {
+    let thin = 1.0 / (1u64 << random.between(2, 20)) as f64;
+    match random.below(3) {
+        0 => cuboid([-1.0, -1.0, 0.0], [1.0, 1.0, thin]),
+        1 => prism(random.between(3, 6), 1.0, thin),
+        _ => tetrahedron(1.5).mapped(|[x, y, z]| [x, y, z * thin]),
+    }
+}
+
+/// A box or a prism beside another, shifted by a width and more along some axes: contact at a face, an edge or a corner
+/// where nothing is added.
+fn beside(random: &mut Random, more: f64) -> Job {
+    let axes = random.between(1, 3);
+    let mut by = [0.0; 3];
+    by[..axes].fill(1.0 + more);
+    by.rotate_left(random.below(3));
+    let slide = random.pick(&[0.0, 0.0, 0.25, -0.5]);
+    let by = by.map(|x| if x == 0.0 { slide } else { x });
+    Job {
+        tolerances: tolerances(random),
+        first: cube(0.0, 1.0),
+        second: cube(0.0, 1.0).shifted(by),
+        operation: operation(random),
+    }
+}
+
+/// Solids that share a face, a part of one, an edge or a corner.
+fn touching(random: &mut Random) -> Job {
+    if random.coin() {
+        return beside(random, 0.0);
+    }
+    let sides = random.between(3, 8);
+    let (low, high) = (prism(sides, 1.0, 1.0), prism(sides, 1.0, 1.0));
+    let turn = random.pick(&[0.0, 0.0, 0.125]);
+    let about_z = |[x, y, z]: Point| [x - turn * y, y + turn * x, z + 1.0];
+    Job {
+        tolerances: tolerances(random),
+        first: low,
+        second: high.mapped(about_z),
+        operation: operation(random),
+    }
+}
+
+/// A solid inside another, or the other way round: from well inside to within local of its sides.
+fn nested(random: &mut Random) -> Job {
+    let t = tolerances(random);
+    let outer = solid(random, 12);
+    let share = random.pick(&[0.25, 0.5, 1.0 - 4.0 * t.local, 1.0 - t.local, 1.0]);
+    let mut job = Job {
+        tolerances: t,
+        second: outer.scaled(share),
+        first: outer,
+        operation: operation(random),
+    };
+    if random.below(4) == 0 {
+        std::mem::swap(&mut job.first, &mut job.second);
+    }
+    job
 }

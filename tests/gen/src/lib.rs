@@ -1,4 +1,5 @@
 //! A seeded generator: jobs, cells and facets as bytes, damaged ones, and questions at the edges of the leaves.
+pub mod calls;
 pub mod cells;
 pub mod cuts;
 pub mod damage;

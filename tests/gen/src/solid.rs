@@ -93,6 +93,33 @@ pub fn prism(n: usize, radius: f64, height: f64) -> Solid {
     }
 }
 
+/// A pyramid over a polygon of n corners: n + 1 points, n + 1 faces, n of them at its top.
+pub fn pyramid(n: usize, radius: f64, height: f64) -> Solid {
+    let base = ring(n)
+        .into_iter()
+        .map(|[x, y]| [x * radius, y * radius, 0.0]);
+    let mut faces = vec![(0..n).rev().collect::<Vec<_>>()];
+    faces.extend((0..n).map(|i| vec![i, (i + 1) % n, n]));
+    Solid {
+        points: base.chain([[0.0, 0.0, height]]).collect(),
+        faces,
+    }
+}
+
+/// A box whose high z side is two faces: three faces at each point, two of them on one plane at two points.
+pub fn split_box(low: Point, high: Point, share: f64) -> Solid {
+    let mut solid = cuboid(low, high);
+    let x = low[0] + share * (high[0] - low[0]);
+    solid
+        .points
+        .extend([[x, low[1], high[2]], [x, high[1], high[2]]]);
+    solid.faces[1] = vec![0, 1, 5, 8, 4];
+    solid.faces[4] = vec![2, 6, 9, 7, 3];
+    solid.faces[5] = vec![4, 8, 9, 6];
+    solid.faces.push(vec![8, 5, 7, 9]);
+    solid
+}
+
 /// The triangles of the convex hull of points in general position around the origin.
 fn hull(points: &[Point]) -> Vec<[usize; 3]> {
     let above = |t: &[usize; 3], q: Point| {

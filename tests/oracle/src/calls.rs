@@ -200,3 +200,42 @@ pub fn mesh(facet: &[u8], answer: Option<usize>) -> Outcome<Vec<u8>> {
 pub fn solidjob(job: &[u8]) -> String {
     text(&fuse_bodies(job, Lent::even(SOLIDJOB_ROOM)))
 }
+
+/// Bytes of answer memory for a corner of the answer room.
+pub const CORNER_BYTES: usize = 64;
+
+/// A call of the library; an offset's distance and a hollow's thickness go with it.
+#[derive(Clone, Copy, Debug, PartialEq)]
+pub enum Call {
+    Fuse,
+    Cells,
+    Offset(f64),
+    Hollow(f64),
+    Mesh,
+}
+
+impl Call {
+    /// The answer's bytes, with a work room of so many corners and so many bytes of answer memory.
+    pub fn answer(self, given: &[u8], corners: usize, memory: usize) -> Outcome<Vec<u8>> {
+        let lent = Lent {
+            room: Some(corners),
+            answer: Some(memory / CORNER_BYTES),
+        };
+        self.run(given, lent)
+    }
+
+    fn run(self, given: &[u8], lent: Lent) -> Outcome<Vec<u8>> {
+        match self {
+            Call::Fuse => fuse(given, lent),
+            Call::Cells => cells(given, lent),
+            Call::Offset(distance) => offset(given, distance, lent),
+            Call::Hollow(thickness) => hollow(given, thickness, lent),
+            Call::Mesh => mesh(given, lent.answer),
+        }
+    }
+
+    /// The least room in which the call is not refused for the room alone.
+    pub fn least_room(self, given: &[u8]) -> usize {
+        room::least(|| self.run(given, Lent::even(usize::MAX)))
+    }
+}

@@ -17,7 +17,7 @@ mod shim;
 pub use answer::{bodies_bytes, cells_bytes, text, triangles_bytes, Body, Facet, Shell};
 pub use calls::{
     cells, cells_solids, fuse, fuse_bodies, hollow, hollow_bodies, mesh, mesh_triangles, offset,
-    offset_solid, solidjob, Lent, SOLIDJOB_ROOM,
+    offset_solid, solidjob, Call, Lent, CORNER_BYTES, SOLIDJOB_ROOM,
 };
 pub use job::{read_cell, read_facet, read_job, CellFile, FacetFile, Job, Operation};
 pub use leaf::{Cell, Face, Outcome, Plane, Point, Solid, Tolerances};

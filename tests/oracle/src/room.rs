@@ -9,6 +9,8 @@ const CELL_FACES: usize = 128;
 
 thread_local! {
     static ROOM: Cell<Option<usize>> = const { Cell::new(None) };
+    /// The most corners that were asked for since `least` began.
+    static MOST: Cell<usize> = const { Cell::new(0) };
 }
 
 /// Puts the room back that stood before, also when the work panics.
@@ -26,10 +28,26 @@ pub fn with<T>(room: Option<usize>, work: impl FnOnce() -> T) -> T {
     work()
 }
 
-/// Refuses where there is a room and the test on it holds.
-fn full(test: impl FnOnce(usize) -> bool) -> Result<()> {
+/// The most corners that the work asks for: the least room that does not refuse it, where it had room enough.
+pub fn least<T>(work: impl FnOnce() -> T) -> usize {
+    MOST.set(0);
+    work();
+    MOST.get()
+}
+
+/// Refuses more corners than there is room for.
+fn take(corners: usize) -> Result<()> {
+    MOST.set(MOST.get().max(corners));
     match ROOM.get() {
-        Some(room) if test(room) => Err(Error::room()),
+        Some(room) if corners > room => Err(Error::room()),
+        _ => Ok(()),
+    }
+}
+
+/// Refuses in every room where the limit is passed.
+fn limit(passed: bool) -> Result<()> {
+    match ROOM.get() {
+        Some(_) if passed => Err(Error::room()),
         _ => Ok(()),
     }
 }
@@ -40,17 +58,18 @@ fn corners(faces: &[Polygon]) -> usize {
 
 /// One more corner of a face in a cut.
 pub fn corner(had: usize) -> Result<()> {
-    full(|_| had >= FACE_CORNERS)
+    limit(had >= FACE_CORNERS)
 }
 
 /// One more point of a cap in a cut.
 pub fn cap(had: usize) -> Result<()> {
-    full(|_| had >= CAP_POINTS)
+    limit(had >= CAP_POINTS)
 }
 
 /// One more face of a cell that a cut gives.
 pub fn face(had: &[Polygon], more: usize) -> Result<()> {
-    full(|room| more > FACE_CORNERS || had.len() >= CELL_FACES || corners(had) + more > room)
+    limit(more > FACE_CORNERS || had.len() >= CELL_FACES)?;
+    take(corners(had) + more)
 }
 
 /// A cell left whole, added face by face.
@@ -60,19 +79,17 @@ pub fn whole(faces: &[Polygon]) -> Result<()> {
 
 /// One more cell of a list.
 pub fn cell(had: &[Poly], more: &Poly) -> Result<()> {
-    full(|room| {
-        let cells = had.iter().chain([more]);
-        cells.map(|c| corners(&c.faces)).sum::<usize>() > room
-    })
+    let cells = had.iter().chain([more]);
+    take(cells.map(|c| corners(&c.faces)).sum())
 }
 
 /// One more facet after `conform`.
 pub fn facet(listed: &mut usize, more: usize) -> Result<()> {
     *listed += more;
-    full(|room| *listed > room)
+    take(*listed)
 }
 
 /// The finished answer of an offset or a hollow.
 pub fn answer(corners: usize) -> Result<()> {
-    full(|room| corners > room)
+    take(corners)
 }

@@ -3,8 +3,8 @@
 mod common;
 
 use common::*;
-use gen::{cells, damage, facets, jobs, leaves, Random};
-use oracle::{leaf, Cell, Face, Interval, Lent, Outcome, Sign, Tolerances};
+use gen::{calls, cells, damage, facets, jobs, leaves, solid, Random};
+use oracle::{leaf, Call, Cell, Face, Interval, Lent, Outcome, Sign, Tolerances};
 use std::collections::BTreeSet;
 
 fn number<T>(outcome: &Outcome<T>) -> u32 {
@@ -102,6 +102,51 @@ fn offsets_hollows_and_meshes() {
     let ends = facets::counts();
     let of = |f: &oracle::FacetFile| number(&oracle::mesh(&f.bytes(), Some(128)));
     assert_eq!(ends.iter().map(of).filter(|&n| n == 12).count(), 2);
+}
+
+#[test]
+fn pyramids_and_split_sides_are_sound() {
+    for n in 3..=8 {
+        checked(&solid::pyramid(n, 1.0, 1.0));
+    }
+    let split = solid::split_box([0.0; 3], [1.0, 2.0, 3.0], 0.25);
+    checked(&split);
+    let by = |distance: f64| oracle::offset(&cell_file(&split), distance, Lent::UNBOUNDED);
+    assert_eq!(by(0.25), Err(25));
+}
+
+/// The number of a question with its room and its answer memory.
+fn asked(q: &calls::Question) -> u32 {
+    number(&q.call.answer(&q.given, q.corners, q.memory))
+}
+
+#[test]
+fn families_of_the_calls() {
+    let met = numbers(4000, |random| {
+        let job = (jobs::FAMILIES[random.below(jobs::FAMILIES.len())].make)(random);
+        let bytes = match random.below(3) {
+            0 => damage::any(random, &job),
+            _ => job.bytes(),
+        };
+        asked(&calls::lent(random, Call::Cells, bytes))
+    });
+    require(&met, &[0, 1, 2, 3, 4, 5, 6, 7, 9, 12]);
+    let kinds: [fn(f64) -> Call; 2] = [Call::Offset, Call::Hollow];
+    let moves = kinds.map(|call| {
+        numbers(4000, |random| {
+            let moved = (cells::FAMILIES[random.below(cells::FAMILIES.len())].make)(random);
+            let bytes = match random.below(3) {
+                0 => damage::any_cell(random, &moved.cell),
+                _ => moved.cell.bytes(),
+            };
+            asked(&calls::lent(random, call(moved.by), bytes))
+        })
+    });
+    require(&moves[0], &[0, 1, 2, 3, 4, 5, 6, 7, 12, 24, 25, 26, 27]);
+    require(
+        &moves[1],
+        &[0, 1, 2, 3, 4, 5, 7, 12, 24, 25, 26, 27, 28, 29],
+    );
 }
 
 #[test]

@@ -3,7 +3,8 @@ mod common;
 
 use common::*;
 use gen::solid::{cube, cuboid, prism};
-use oracle::{leaf, Cell, Face, Job, Lent, Operation, Outcome};
+use gen::{cells, jobs, Random};
+use oracle::{leaf, Call, Cell, Face, Job, Lent, Operation, Outcome, CORNER_BYTES};
 
 fn cut(cell: &Cell, x: f64, room: usize) -> Outcome<Option<Cell>> {
     leaf::clip(&T, Some(room), cell, &plane_x(x))
@@ -102,6 +103,67 @@ fn a_small_answer_comes_before_the_tolerances() {
     };
     assert_eq!(oracle::offset(&cell, 0.5, lent(720, 719)).err(), Some(12));
     assert_eq!(oracle::offset(&cell, 0.5, lent(720, 720)).err(), None);
+}
+
+fn fits(call: Call, given: &[u8], corners: usize) -> bool {
+    call.answer(given, corners, CORNER_BYTES * corners) != Err(12)
+}
+
+#[test]
+fn the_least_room() {
+    let job = Job::usual(cube(0.0, 3.0), cube(1.0, 2.0), Operation::Difference).bytes();
+    assert_eq!(Call::Fuse.least_room(&job), 624);
+    let cell = cell_file(&cube(0.0, 2.0));
+    assert_eq!(Call::Offset(0.5).least_room(&cell), 24);
+    assert_eq!(Call::Hollow(0.5).least_room(&cell), 48);
+    assert_eq!(Call::Hollow(LINEAR).least_room(&cell), 0);
+    for seed in 0..300 {
+        let mut random = Random::new(seed);
+        let (job, moved) = (jobs::any(&mut random).bytes(), cells::any(&mut random));
+        let cell = moved.cell.bytes();
+        let calls = [
+            (Call::Fuse, &job),
+            (Call::Cells, &job),
+            (Call::Offset(moved.by), &cell),
+            (Call::Hollow(moved.by), &cell),
+        ];
+        for (call, given) in calls {
+            let least = call.least_room(given);
+            assert!(fits(call, given, least), "{call:?} {seed}");
+            assert!(
+                least == 0 || !fits(call, given, least - 1),
+                "{call:?} {seed}"
+            );
+        }
+    }
+}
+
+#[test]
+fn the_answer_room_is_a_64th_of_the_bytes() {
+    let cell = cell_file(&cube(0.0, 2.0));
+    let offset = |memory| Call::Offset(0.5).answer(&cell, 24, memory).err();
+    assert_eq!(offset(24 * 64), None);
+    assert_eq!(offset(24 * 64 - 1), Some(12));
+    assert_eq!(Call::Offset(f64::NAN).answer(&cell, 0, 0), Err(2));
+    assert_eq!(Call::Offset(0.5).answer(&cell, 0, 0), Err(12));
+    let plane = plane_x(0.0);
+    let square = [[0.0, 0.0, 0.0], [0.0, 1.0, 0.0], [0.0, 1.0, 1.0]];
+    let facet = facet_file(&plane, &square);
+    let mesh = |memory| Call::Mesh.answer(&facet, 0, memory).err();
+    assert_eq!(mesh(3 * 64 - 1), Some(12));
+    assert_eq!(mesh(3 * 64), None);
+}
+
+#[test]
+fn every_answer_fits_its_answer_room() {
+    for seed in 0..200 {
+        let job = jobs::any(&mut Random::new(seed)).bytes();
+        for call in [Call::Fuse, Call::Cells] {
+            let least = call.least_room(&job);
+            let answer = call.answer(&job, least, CORNER_BYTES * least);
+            assert!(answer.map_or(0, |bytes| bytes.len()) <= CORNER_BYTES * least);
+        }
+    }
 }
 
 #[test]

@@ -104,28 +104,29 @@ impl<T: Copy> Tail<T> {
         &self.0.slice()[self.0.n - n..]
     }
 
+    pub fn slice_mut(&mut self, n: usize) -> &mut [T] {
+        let at = self.end(n);
+        // SAFETY: `at` has n values, and `self` is borrowed alone.
+        unsafe { slice::from_raw_parts_mut(at, n) }
+    }
+
     pub fn lay(&mut self, values: &[T]) -> *mut T {
-        let at = self.end(values.len());
-        // SAFETY: `at` has as many values, and `self` is borrowed alone.
-        unsafe { slice::from_raw_parts_mut(at, values.len()) }.copy_from_slice(values);
-        at
+        let to = self.slice_mut(values.len());
+        to.copy_from_slice(values);
+        to.as_mut_ptr()
     }
 
     pub fn fill(&mut self, n: usize, value: T) -> *mut T {
-        let at = self.end(n);
-        // SAFETY: as above.
-        unsafe { slice::from_raw_parts_mut(at, n) }.fill(value);
-        at
+        let to = self.slice_mut(n);
+        to.fill(value);
+        to.as_mut_ptr()
     }
 
     /// Each of the last values anew, by its place from the end.
     pub fn each(&mut self, mut value: impl FnMut(usize) -> T) {
         const SOILED: usize = 4096;
         let n = self.0.n.min(SOILED);
-        let at = self.end(n);
-        for i in 0..n {
-            // SAFETY: as above.
-            unsafe { *at.add(i) = value(i) };
-        }
+        let to = self.slice_mut(n).iter_mut().enumerate();
+        to.for_each(|(i, x)| *x = value(i));
     }
 }

@@ -1,4 +1,5 @@
 //! The archives of the port, as Rust calls them: plain types in, plain types out.
+pub mod calls;
 pub mod cutting;
 pub mod guard;
 pub mod leaves;

@@ -1,0 +1,114 @@
+/* The convex planar solid kernel, for C. `solid.hpp` is the same for C++.
+ *
+ * Every call takes bytes, a work room and answer memory, and returns
+ *
+ *     number + 256 * bytes
+ *
+ * number: 0 for an answer, else why it was refused (docs/01-scope.md, "Refusal numbers"). bytes: how many bytes of the
+ * answer memory were written, from its start; 0 for a refusal. What lies behind them is left as it was, and all of it after
+ * a refusal. There is no static state: calls with different rooms may run at the same time.
+ *
+ * The work room is counted in corners and lent as slices of numbers (below). What stands in them before a call does not
+ * matter; after every call they are zero. The answer memory needs 64 bytes for each corner of the work room: 12 where it
+ * has less, or where a work slice is too short. A null pointer goes with length 0.
+ *
+ * What is given, records of one byte of kind and a fixed body, little-endian, 32,768 bytes at most (1 otherwise):
+ *   cell   1 tolerances (linear, local: 2 f64); a solid: 2 point (3 f64) for each point, then for each face 3 and, for each
+ *          of its corners, 4 (u16, the point's place, counted from 0), and 5 at its end
+ *   facet  1, 9 plane (12 f64: origin, x, y, z), 2 for each corner
+ *
+ * What is answered, little-endian, without a leading count: it ends where the bytes end.
+ *   hollow         for its body u32 shells; for each shell u8 (1 outward, 0 inward), u32 facets; for each facet 12 f64 plane
+ *                  (origin, x, y, z), u32 corners, 3 f64 a corner
+ *   offset         for its cell u32 points, 3 f64 a point, u32 faces; for each face u32 corners, u32 a corner (its point)
+ *   mesh           for each triangle three u32, the places of its corners
+ */
+#ifndef RUMOSAYWE_SOLID_H
+#define RUMOSAYWE_SOLID_H
+
+#include <stddef.h>
+#include <stdint.h>
+
+#ifdef __cplusplus
+extern "C" {
+#endif
+
+/* The work slices of each call in their order. F(name, each, more) is a slice of double, U(name, each, more) one of
+ * uint64_t; for a room of n corners it has each * n + more numbers, or more. */
+#define SOLID_OFFSET_WORK(F, U) F(s, 0, 3840) U(counts, 0, 128) F(dst, 0, 1920) U(sizes, 0, 64)
+#define SOLID_HOLLOW_WORK(F, U) F(s, 0, 3840) U(counts, 0, 128) F(dst, 0, 1920) U(sizes, 0, 64)
+
+#define SOLID_F64_SLICE(name, each, more) double *name, size_t name##_n,
+#define SOLID_U64_SLICE(name, each, more) uint64_t *name, size_t name##_n,
+
+/* The cell with all its planes moved outward by a distance, which may be negative. */
+uint64_t solid_offset(const uint8_t *cell, size_t cell_n, double distance, uint64_t corners,
+                      SOLID_OFFSET_WORK(SOLID_F64_SLICE, SOLID_U64_SLICE) uint8_t *answer, size_t answer_n);
+
+/* The cell with a cavity that leaves a wall of a thickness: one body, the outer shell and then the inner one. */
+uint64_t solid_hollow(const uint8_t *cell, size_t cell_n, double thickness, uint64_t corners,
+                      SOLID_HOLLOW_WORK(SOLID_F64_SLICE, SOLID_U64_SLICE) uint8_t *answer, size_t answer_n);
+
+/* The triangles of a facet of at most 128 corners. It takes no room; the answer memory needs 64 bytes a corner. */
+uint64_t solid_mesh(const uint8_t *facet, size_t facet_n, uint8_t *answer, size_t answer_n);
+
+/* One block of memory for all work slices, 8 bytes a word and aligned to 8: any call takes its slices out of it. */
+
+/* The most corners of such a block: no product below overflows. */
+#define SOLID_MOST_CORNERS ((uint64_t)1 << 40)
+
+#define SOLID_WORDS(name, each, more) +(uint64_t)(each) * corners + (uint64_t)(more)
+
+/* The words that every call of a room of so many corners finds enough; corners is at most SOLID_MOST_CORNERS. */
+static inline uint64_t solid_room_words(uint64_t corners)
+{
+    const uint64_t words[] = {
+        0 SOLID_OFFSET_WORK(SOLID_WORDS, SOLID_WORDS),
+        0 SOLID_HOLLOW_WORK(SOLID_WORDS, SOLID_WORDS),
+    };
+    uint64_t most = 0;
+    for (size_t i = 0; i < sizeof words / sizeof words[0]; i++)
+        if (most < words[i])
+            most = words[i];
+    return most;
+}
+
+#define SOLID_F64_CARVE(name, each, more)                                                                                   \
+    double *name = (double *)at;                                                                                            \
+    const size_t name##_n = (size_t)((each) * corners + (more));                                                            \
+    at += 8 * name##_n;
+#define SOLID_U64_CARVE(name, each, more)                                                                                   \
+    uint64_t *name = (uint64_t *)at;                                                                                        \
+    const size_t name##_n = (size_t)((each) * corners + (more));                                                            \
+    at += 8 * name##_n;
+#define SOLID_LEND(name, each, more) name, name##_n,
+
+/* The calls with their work slices out of a block of solid_room_words(corners) words. */
+
+static inline uint64_t solid_offset_in(void *room, const uint8_t *cell, size_t cell_n, double distance, uint64_t corners,
+                                       uint8_t *answer, size_t answer_n)
+{
+    unsigned char *at = (unsigned char *)room;
+    SOLID_OFFSET_WORK(SOLID_F64_CARVE, SOLID_U64_CARVE)
+    return solid_offset(cell, cell_n, distance, corners, SOLID_OFFSET_WORK(SOLID_LEND, SOLID_LEND) answer, answer_n);
+}
+
+static inline uint64_t solid_hollow_in(void *room, const uint8_t *cell, size_t cell_n, double thickness, uint64_t corners,
+                                       uint8_t *answer, size_t answer_n)
+{
+    unsigned char *at = (unsigned char *)room;
+    SOLID_HOLLOW_WORK(SOLID_F64_CARVE, SOLID_U64_CARVE)
+    return solid_hollow(cell, cell_n, thickness, corners, SOLID_HOLLOW_WORK(SOLID_LEND, SOLID_LEND) answer, answer_n);
+}
+
+#undef SOLID_F64_SLICE
+#undef SOLID_U64_SLICE
+#undef SOLID_WORDS
+#undef SOLID_F64_CARVE
+#undef SOLID_U64_CARVE
+#undef SOLID_LEND
+
+#ifdef __cplusplus
+}
+#endif
+#endif
