@@ -1,2 +1,0 @@
-pub mod Fused
-pub mod Laws
