@@ -38,13 +38,13 @@ module _ (room : ℕ) (answer : List ℕ) (rest spare dst : List Float) (held sl
       record { place = omega (arith, L .rest-fits); slots = omega (arith, L .held-fits) },
       record { place = omega (arith, L .spare-fits); slots = omega (arith, L .slots-fit) },
       record { place = omega (arith, L .dst-fits); slots = omega (arith, L .counts-fit); seats = L .sizes-fit },
-      record { face-fits = f; cap-fits = c; hulls = record { flat-fits = h; order-fits = omega (arith, L .order-fits); chain-fits = omega (arith, L .chain-fits) } }
+      record { face-fits = f; cap-fits = c; hulls = record { flat-fits = h; order-fits = omega (arith, L .order-fits); chain-fits = omega (arith, L .chain-fits) } },
     ),
     (
       record { points = omega (arith, L .rest-fits); places = omega (arith, L .held-fits); marks = omega (arith, L .slots-fit) },
       record { ends-fit = omega (arith, L .order-fits); next-fits = omega (arith, L .chain-fits); corners-fit = L .nodes-fit; head-fits = L .head-fits; seen-fits = L .seen-fits; work-fits = L .work-fits; nodes-fit = L .nodes-fit; cuts-fit = L .cuts-fit },
-      L .answer-fits
-    )
+      L .answer-fits,
+    ),
   )
 
   -- after the solids are taken

@@ -46,10 +46,9 @@ answer-here-requires : tie.Need-answer-here-requires
 answer-here-requires c κs =
     let S = c .before .before .before .before .before .before .before .before .before .before .before .before .before .before .before .before .before .before .before .before .before .before .before .before .before .before .before .before .before .before .before .before .before .before .before .before .before .before .before .before .before .before .before .before .before .before .before .before in
     let A = S .args in
-    let T = c .before .before .before .before .before .before .before .before .before .before .before .before .before .before .before .before .before .before .before .before .before .before .before .before .before .before .take-both in
-    (
+    let T = c .before .before .before .before .before .before .before .before .before .before .before .before .before .before .before .before .before .before .before .before .before .before .before .before .before .before .take-both in (
       laid-cells (A .job .now) (A .y) _ _ _ _ _ (T .ensures) (c .before .before .before .before .before .before .before .before .before .before .before .before .before .before .before .before .before .before .enum-told .given .1),
-      lent-taken (A .limit) (A .answer .now) (A .rest .now) (A .spare .now) (A .dst .now) (A .held .now) (A .slots .now) (A .counts .now) (A .sizes .now) (A .order .now) (A .chain .now) (A .head .now) (A .seen .now) (A .work .now) (A .nodes .now) (A .cuts .now) (S .pre .1) _ _ (T .kept .1 .1 .0) (T .kept .1 .1 .1 .0)
+      lent-taken (A .limit) (A .answer .now) (A .rest .now) (A .spare .now) (A .dst .now) (A .held .now) (A .slots .now) (A .counts .now) (A .sizes .now) (A .order .now) (A .chain .now) (A .head .now) (A .seen .now) (A .work .now) (A .nodes .now) (A .cuts .now) (S .pre .1) _ _ (T .kept .1 .1 .0) (T .kept .1 .1 .1 .0),
     )
 
 same-length-3 : tie.Need-same-length-3
