@@ -15,12 +15,13 @@
  * What is given, records of one byte of kind and a fixed body, little-endian, 32,768 bytes at most (1 otherwise):
  *   cell   1 tolerances (linear, local: 2 f64); a solid: 2 point (3 f64) for each point, then for each face 3 and, for each
  *          of its corners, 4 (u16, the point's place, counted from 0), and 5 at its end
+ *   job    1, two solids as above, 6 operation (u8: 1 intersection, 2 difference, 3 union)
  *   facet  1, 9 plane (12 f64: origin, x, y, z), 2 for each corner
  *
  * What is answered, little-endian, without a leading count: it ends where the bytes end.
  *   hollow         for its body u32 shells; for each shell u8 (1 outward, 0 inward), u32 facets; for each facet 12 f64 plane
  *                  (origin, x, y, z), u32 corners, 3 f64 a corner
- *   offset         for its cell u32 points, 3 f64 a point, u32 faces; for each face u32 corners, u32 a corner (its point)
+ *   cells, offset  for each cell u32 points, 3 f64 a point, u32 faces; for each face u32 corners, u32 a corner (its point)
  *   mesh           for each triangle three u32, the places of its corners
  */
 #ifndef RUMOSAYWE_SOLID_H
@@ -35,11 +36,18 @@ extern "C" {
 
 /* The work slices of each call in their order. F(name, each, more) is a slice of double, U(name, each, more) one of
  * uint64_t; for a room of n corners it has each * n + more numbers, or more. */
+#define SOLID_CELLS_WORK(F, U)                                                                                              \
+    F(rest, 3, 1920) F(spare, 3, 1536) F(dst, 10, 1536) U(held, 1, 128) U(slots, 1, 128) U(counts, 1, 128) U(sizes, 1, 1)     \
+    U(order, 2, 1024) U(chain, 2, 2048) U(head, 1, 0) U(seen, 1, 0) U(work, 1, 0) U(nodes, 1, 0) U(cuts, 1, 1)
 #define SOLID_OFFSET_WORK(F, U) F(s, 0, 3840) U(counts, 0, 128) F(dst, 0, 1920) U(sizes, 0, 64)
 #define SOLID_HOLLOW_WORK(F, U) F(s, 0, 3840) U(counts, 0, 128) F(dst, 0, 1920) U(sizes, 0, 64)
 
 #define SOLID_F64_SLICE(name, each, more) double *name, size_t name##_n,
 #define SOLID_U64_SLICE(name, each, more) uint64_t *name, size_t name##_n,
+
+/* The operation of a job as convex cells with disjoint interiors. */
+uint64_t solid_cells(const uint8_t *job, size_t job_n, uint64_t corners,
+                     SOLID_CELLS_WORK(SOLID_F64_SLICE, SOLID_U64_SLICE) uint8_t *answer, size_t answer_n);
 
 /* The cell with all its planes moved outward by a distance, which may be negative. */
 uint64_t solid_offset(const uint8_t *cell, size_t cell_n, double distance, uint64_t corners,
@@ -63,6 +71,7 @@ uint64_t solid_mesh(const uint8_t *facet, size_t facet_n, uint8_t *answer, size_
 static inline uint64_t solid_room_words(uint64_t corners)
 {
     const uint64_t words[] = {
+        0 SOLID_CELLS_WORK(SOLID_WORDS, SOLID_WORDS),
         0 SOLID_OFFSET_WORK(SOLID_WORDS, SOLID_WORDS),
         0 SOLID_HOLLOW_WORK(SOLID_WORDS, SOLID_WORDS),
     };
@@ -84,6 +93,14 @@ static inline uint64_t solid_room_words(uint64_t corners)
 #define SOLID_LEND(name, each, more) name, name##_n,
 
 /* The calls with their work slices out of a block of solid_room_words(corners) words. */
+
+static inline uint64_t solid_cells_in(void *room, const uint8_t *job, size_t job_n, uint64_t corners, uint8_t *answer,
+                                      size_t answer_n)
+{
+    unsigned char *at = (unsigned char *)room;
+    SOLID_CELLS_WORK(SOLID_F64_CARVE, SOLID_U64_CARVE)
+    return solid_cells(job, job_n, corners, SOLID_CELLS_WORK(SOLID_LEND, SOLID_LEND) answer, answer_n);
+}
 
 static inline uint64_t solid_offset_in(void *room, const uint8_t *cell, size_t cell_n, double distance, uint64_t corners,
                                        uint8_t *answer, size_t answer_n)

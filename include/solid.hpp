@@ -53,6 +53,12 @@ private:
 // Each returns number + 256 * bytes: number is document 01's (0: an answer), bytes how many bytes of `answer` were written
 // (0 for a refusal).
 
+// The operation of a job as convex cells with disjoint interiors.
+inline std::uint64_t cells(std::span<const std::uint8_t> job, Room &room, std::span<std::uint8_t> answer)
+{
+    return solid_cells_in(room.memory(), job.data(), job.size(), room.corners(), answer.data(), answer.size());
+}
+
 // The cell with all its planes moved outward by a distance, which may be negative.
 inline std::uint64_t offset(std::span<const std::uint8_t> cell, double distance, Room &room, std::span<std::uint8_t> answer)
 {
@@ -146,8 +152,8 @@ void walk_bodies(std::span<const std::uint8_t> answer, Visitor &&visitor)
     }
 }
 
-// Walks an answer of `offset`. The visitor has cell(points), point(point), faces(faces), face(corners) and corner(place),
-// called as they stand in the answer.
+// Walks an answer of `cells` or `offset`. The visitor has cell(points), point(point), faces(faces), face(corners) and
+// corner(place), called as they stand in the answer.
 template <class Visitor>
 void walk_cells(std::span<const std::uint8_t> answer, Visitor &&visitor)
 {
@@ -203,7 +209,7 @@ inline std::vector<Body> bodies_of(std::span<const std::uint8_t> answer)
     return std::move(into.out);
 }
 
-// An answer of `offset` as plain vectors.
+// An answer of `cells` or `offset` as plain vectors.
 inline std::vector<Cell> cells_of(std::span<const std::uint8_t> answer)
 {
     struct Into {
@@ -249,6 +255,9 @@ public:
     }
 
     Writer &end_solid() { return record(5); }
+
+    // 1 intersection, 2 difference, 3 union.
+    Writer &operation(std::uint8_t kind) { return record(6).whole(kind, 1); }
 
     Writer &plane(const Plane &w)
     {

@@ -32,6 +32,11 @@ static solid::Cell box(solid::Point low, solid::Point high)
 
 static solid::Cell cube(double a, double b) { return box({a, a, a}, {b, b, b}); }
 
+static Bytes job(const solid::Cell &first, const solid::Cell &second, std::uint8_t operation)
+{
+    return solid::Writer().tolerances(linear, local).solid(first).solid(second).operation(operation).bytes();
+}
+
 static Bytes cell(const solid::Cell &given) { return solid::Writer().tolerances(linear, local).solid(given).bytes(); }
 
 static const std::uint8_t untouched = 0xa5;
@@ -68,6 +73,27 @@ static double volume(const solid::Cell &c)
             sum += ax * (by * cz - bz * cy) + ay * (bz * cx - bx * cz) + az * (bx * cy - by * cx);
         }
     return sum / 6;
+}
+
+static std::vector<double> volumes(const Bytes &given)
+{
+    solid::Room room(720);
+    Bytes answer(64 * 720);
+    const auto r = told(room, answer, [&] { return solid::cells(given, room, answer); });
+    expect("cells are answered", solid::number(r) == 0);
+    std::vector<double> out;
+    for (const auto &c : solid::cells_of(head(answer, r)))
+        out.push_back(volume(c));
+    return out;
+}
+
+static void the_cells()
+{
+    expect("P7: one cell of volume 1", volumes(job(cube(0, 2), cube(1, 3), 1)) == std::vector<double>{1});
+    expect("P8: volumes 4, 2, 1", volumes(job(cube(0, 2), cube(1, 3), 2)) == std::vector<double>{4, 2, 1});
+    expect("a union has the second solid last", volumes(job(cube(0, 2), cube(1, 3), 3)) == std::vector<double>{4, 2, 1, 8});
+    const Bytes beside = job(cube(0, 1), box({1, 0, 0}, {2, 1, 1}), 1);
+    expect("P12: no cells", volumes(beside).empty());
 }
 
 static void the_rooms()
@@ -184,6 +210,7 @@ static void the_reader()
 
 int main()
 {
+    the_cells();
     the_rooms();
     unaligned();
     the_threads();

@@ -10,6 +10,7 @@ fn main() {
         "cut_leaves",
         "mesh_leaf",
         "solid_leaves",
+        "solid_cells",
         "solid_offset",
         "solid_mesh",
     ] {

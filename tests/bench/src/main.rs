@@ -15,5 +15,6 @@ fn main() {
     cutting::clips();
     cutting::meshes();
     solids::checks();
+    calls::cells();
     calls::moves();
 }

@@ -2,9 +2,9 @@
 use crate::report::{Report, Told};
 use crate::Scale;
 use gen::calls::{self, hex, Question, MOST_CORNERS, MOST_MEMORY};
-use gen::{cells, damage, facets, Random};
-use oracle::{Call, CellFile, Solid, Tolerances, CORNER_BYTES};
-use port::calls::{Asked, Desk, Entry, Lending, HOLLOW, MESH, OFFSET};
+use gen::{cells, damage, facets, jobs, pairs, Random};
+use oracle::{Call, CellFile, Job, Solid, Tolerances, CORNER_BYTES};
+use port::calls::{Asked, Desk, Entry, Lending, CELLS, HOLLOW, MESH, OFFSET};
 use std::{fmt, thread};
 
 /// Questions of one family.
@@ -255,6 +255,46 @@ fn other_lengths(bytes: &[u8]) -> Vec<Vec<u8>> {
     short.chain(damage::too_long(bytes)).collect()
 }
 
+/// Each solid in the place of the first and of the second.
+fn in_place(job: &Job, solids: Vec<Solid>) -> Vec<Vec<u8>> {
+    let both = |solid: Solid| {
+        let (mut first, mut second) = (job.clone(), job.clone());
+        first.first = solid.clone();
+        second.second = solid;
+        [first.bytes(), second.bytes()]
+    };
+    solids.into_iter().flat_map(both).collect()
+}
+
+/// Jobs of all families through a call of jobs.
+fn of_jobs(layer: &mut Layer, call: Call) {
+    let any = |r: &mut Random| (jobs::FAMILIES[r.below(jobs::FAMILIES.len())].make)(r);
+    for jobs::Family { name, make, fewer } in jobs::FAMILIES {
+        layer.ask(name, EACH / fewer, |r| (call, make(r).bytes()));
+    }
+    layer.ask("damaged", 4 * EACH, |r| {
+        let job = any(r);
+        (call, damage::any(r, &job))
+    });
+    let of = |given: Vec<Vec<u8>>| given.into_iter().map(move |g| (call, g));
+    let pairs: Vec<_> = pairs::files().into_iter().map(|(_, job)| job).collect();
+    let bytes: Vec<_> = pairs.iter().map(Job::bytes).collect();
+    let lengths = bytes.iter().flat_map(|b| other_lengths(b)).collect();
+    layer.ask_all("other lengths", of(lengths));
+    layer.ask_all("01's pairs", of(bytes));
+    let great = [32_767, 32_768, 32_769, 33_000];
+    let great = great.map(|n| damage::sized(&pairs[0], n));
+    layer.ask_all("about 32,768 bytes", of(great.into()));
+    let tolerances = damage::other_tolerances().into_iter().map(|tolerances| {
+        let job = pairs[0].clone();
+        Job { tolerances, ..job }.bytes()
+    });
+    layer.ask_all("other tolerances", of(tolerances.collect()));
+    layer.ask_all("counts", of(in_place(&pairs[0], damage::counts())));
+    layer.ask_short(|r| (call, any(r).bytes()));
+    layer.ask_together(EACH / 16, |r| (call, any(r).bytes()));
+}
+
 /// Cells of all families through a call of a cell and a distance or a thickness.
 fn of_cells(layer: &mut Layer, call: fn(f64) -> Call) {
     let fit = |r: &mut Random, moved| match call(0.0) {
@@ -304,6 +344,12 @@ fn of_cells(layer: &mut Layer, call: fn(f64) -> Call) {
         let moved = any(r);
         (call(moved.by), moved.cell.bytes())
     });
+}
+
+pub fn cells(report: &mut Report, seed: u64, scale: Scale) {
+    let mut layer = Layer::new(report, "cells", CELLS, seed, scale);
+    of_jobs(&mut layer, Call::Cells);
+    report.reached("cells", &[0, 1, 2, 3, 4, 5, 6, 7, 9, 10, 12]);
 }
 
 pub fn offset(report: &mut Report, seed: u64, scale: Scale) {

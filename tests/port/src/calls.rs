@@ -69,6 +69,23 @@ macro_rules! entry {
     };
 }
 
+entry!(CELLS = solid_cells() {
+    rest: f64 = 3 * corners + 1920,
+    spare: f64 = 3 * corners + 1536,
+    dst: f64 = 10 * corners + 1536,
+    held: u64 = 1 * corners + 128,
+    slots: u64 = 1 * corners + 128,
+    counts: u64 = 1 * corners + 128,
+    sizes: u64 = 1 * corners + 1,
+    order: u64 = 2 * corners + 1024,
+    chain: u64 = 2 * corners + 2048,
+    head: u64 = 1 * corners + 0,
+    seen: u64 = 1 * corners + 0,
+    work: u64 = 1 * corners + 0,
+    nodes: u64 = 1 * corners + 0,
+    cuts: u64 = 1 * corners + 1,
+});
+
 entry!(OFFSET = solid_offset(distance) {
     s: f64 = 0 * corners + 3840,
     counts: u64 = 0 * corners + 128,
