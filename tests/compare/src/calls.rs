@@ -183,8 +183,11 @@ impl<'a> Layer<'a> {
         let questions: Vec<_> = (0..self.scale.of(100) * slices)
             .map(|i| {
                 let given = make(random);
-                let corners = random.pick(&[0, 1, 24, 100, 720]);
-                (in_room(given, corners), Lending::Short(i % slices))
+                let k = i % slices;
+                let corners: usize = random.pick(&[0, 1, 24, 100, 720]);
+                // a slice of no words cannot be shorter
+                let least = usize::from(entry.slices[k].words(corners) == 0);
+                (in_room(given, corners.max(least)), Lending::Short(k))
             })
             .collect();
         let short = |q: &Lent| ours_of(desk, q);
