@@ -40,13 +40,13 @@ pub all-corners-snoc : (cs : List Cell) (c : Cell) → allCorners 0 (cs ++ (c �
 all-corners-snoc [] c = omega (arith, all-corners-cons c [], all-corners-none)
 all-corners-snoc (b ∷ cs) c = omega (arith, all-corners-snoc cs c, all-corners-cons b cs, all-corners-cons b (cs ++ (c ∷ [])))
 
-length-cellsFloats : (cs : List Cell) → length (cellsFloats cs) ≡ 12 * length (cellsCounts cs) + 3 * allCorners 0 cs
+pub length-cellsFloats : (cs : List Cell) → length (cellsFloats cs) ≡ 12 * length (cellsCounts cs) + 3 * allCorners 0 cs
 unfolding cellsFloats cellsCounts
 length-cellsFloats [] = omega (arith, all-corners-none)
 length-cellsFloats (c ∷ cs) =
     omega (arith, length-cellsFloats cs, length-append (cellFloats c) (cellsFloats cs), length-append (cellCounts c) (cellsCounts cs), length-cellFloats c, length-cellCounts c, all-corners-cons c cs)
 
-length-cellsSizes : (cs : List Cell) → length (cellsSizes cs) ≡ length cs
+pub length-cellsSizes : (cs : List Cell) → length (cellsSizes cs) ≡ length cs
 unfolding cellsSizes
 length-cellsSizes [] = refl
 length-cellsSizes (c ∷ cs) = ap suc (length-cellsSizes cs)

@@ -1,0 +1,4 @@
+pub mod Arrangements
+pub mod Conforming
+pub mod Laws
+pub mod Facts
