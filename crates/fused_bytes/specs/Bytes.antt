@@ -1,0 +1,61 @@
+-- The bytes of the bodies that lie in slices. Definitions only.
+use mathlib.Core.Path.{_≡_}
+use mathlib.Core.List.{List}
+use Prim.Native.Nat.{ℕ, _+_, _*_, _≤_, _<_}
+use lib.ListN.{length, take, getD}
+use lib.Seq.{sets}
+use lib.Ieee.{Float}
+use Rattle.refusal.specs.declared.Refusal.{Refusal}
+use Rattle.refusal.specs.declared.Verdict.the-variants.{Fine, Refused}
+use Rattle.refusal.specs.Outcome.{Outcome, ok, refused, then, heard}
+use Rattle.room.specs.Rooms.{countsAt, Within}
+use Rattle.writer.specs.Rows.{row}
+use Rattle.keys.specs.Rows.{Starts}
+use Rattle.volume.specs.Shell.{Points}
+use Rattle.fused_answer.specs.Fused.{bodyBytes}
+use Rattle.fused_answer.specs.Bodies.{bodiesAt, Stacked}
+use Rattle.fused_answer.specs.Spots.{spotsFrom}
+use Rattle.fuse_list.specs.declared.Listing.{Listing}
+use Rattle.fused_bytes.specs.declared.Ended.{Ended}
+
+-- d and n: the faces of the cells; p, c, s: the arrangement; x, z, b: its bodies
+module _ (y : Listing) (d : List Float) (n : List ℕ) (p : List Float) (c s x z b spots : List ℕ) where
+  -- where the planes stand
+  unfoldable pub spotsAt : List ℕ
+  spotsAt = sets spots 0 (spotsFrom 0 (countsAt n 0 (y .layout .facets)))
+
+  -- the bodies' bytes, one behind another
+  unfoldable pub printed : List ℕ
+  printed = row (bodyBytes d spotsAt (take (3 * y .layout .points) p) (take (y .layout .vertices) c) (take (y .layout .facets + 1) s)) (bodiesAt (take (y .fused .facets) x) z 0 0 (countsAt b 0 (y .fused .bodies)))
+
+  -- a refusal has none
+  unfoldable pub printAt : Outcome (List ℕ)
+  printAt = then (heard {A = Unit {0}} (y .fused .verdict) tt) (λ _. ok printed)
+
+  -- the slices hold what was laid out, and there is room for the bytes
+  pub record Printable (out : List ℕ) : Type 0 where
+    pub few : y .layout .points ≤ 4096
+    pub low : y .layout .facets ≤ 4611686018427387904
+    pub points : 3 * y .layout .points ≤ length p
+    pub cycles : y .layout .vertices ≤ length c
+    pub starts : y .layout .facets < length s
+    pub counts : y .layout .facets ≤ length n
+    pub spotted : y .layout .facets ≤ length spots
+    pub within : Within (countsAt n 0 (y .layout .facets)) 0 (length d)
+    pub rows : Starts (take (y .layout .vertices) c) (take (y .layout .facets + 1) s) (y .layout .facets)
+    pub vertices : Points (take (3 * y .layout .points) p) (take (y .layout .vertices) c)
+    pub listed : y .fused .facets ≤ length x
+    pub inside : (i : ℕ) → i < length (take (y .fused .facets) x) → getD (take (y .fused .facets) x) i 0 < y .layout .facets
+    pub bodies : y .fused .bodies ≤ length b
+    pub stacked : Stacked (take (y .fused .facets) x) z 0 0 (countsAt b 0 (y .fused .bodies))
+    pub fits : length printed ≤ length out
+
+unfoldable pub endedOf : Outcome (List ℕ) → Ended
+endedOf (ok l) = record { verdict = Fine; bytes = length l }
+endedOf (refused e) = record { verdict = Refused e; bytes = 0 }
+
+-- 01: a refusal hands back its number and no bodies; the answer is untouched then
+pub record Answered (o : Outcome (List ℕ)) (out₀ out : List ℕ) (r : Ended) : Type 0 where
+  pub is : r ≡ endedOf o
+  pub bytes : (l : List ℕ) → o ≡ ok l → out ≡ sets out₀ 0 l
+  pub same : (e : Refusal) → o ≡ refused e → out ≡ out₀
