@@ -13,13 +13,14 @@ use Rattle.refusal.specs.Laws.{stop, go}
 use Rattle.space.specs.declared.Precision.{Precision}
 use Rattle.space.specs.Shapes.{Cell, corners}
 use Rattle.polygon.specs.Memory.{floatsOf}
-use Rattle.polygon.specs.Members.{same-ok, then-ok}
+use Rattle.polygon.specs.Members.{All, same-ok, then-ok}
+use Rattle.room.specs.Rooms.{cellAt, countsAt}
 use Rattle.room.specs.Laws.{length-floatsOf}
 use Rattle.indexed.specs.Stored.{flat}
 use Rattle.merge.specs.Merge.{merge}
 use Rattle.arrange.specs.Arrange.{conformAll, arrange}
 use Rattle.stack.specs.declared.Stack.{Stack}
-use Rattle.stack.specs.Stacks.{cellsAt, stackOf, listAt, Holds}
+use Rattle.stack.specs.Stacks.{cellsAt, stackOf, listAt, Sound, Holds}
 use Rattle.stack.specs.Laws.{numbers}
 use Rattle.keys.specs.Rows.{Starts, row, rows, row-at}
 use Rattle.groups.specs.Groups.{bounds, Grouped}
@@ -31,9 +32,9 @@ use Rattle.cavities.specs.Steps.{volumeOf}
 use Rattle.assembly.specs.declared.Fused.{Fused}
 use Rattle.assembly.specs.Answer as A
 use Rattle.arrangement.specs.declared.Layout.{Layout}
-use Rattle.arrangement.specs.Arrangements.{facesOf, Arrangement, arrangeCells, laidOf, Laid}
-use Rattle.arrangement.specs.Conforming.{merge-most}
-use Rattle.arrangement.specs.Laws.{faces-facing, faces-read, list-stands}
+use Rattle.arrangement.specs.Arrangements.{facesOf, Arrangement, arrangeCells, laidOf, Laid, Facing}
+use Rattle.arrangement.specs.Conforming.{arranged, merge-most}
+use Rattle.arrangement.specs.Laws.{faces-wide, faces-facing, faces-read, list-stands}
 use Rattle.arrangement.specs.Facts.{Facets, arrangement-facets, vertices-many, facets-many, vertices-are, cycles-grouped, cycles-wide, vertices-points, owners-cells}
 use Rattle.fused.specs.Bodies.{fuseIn}
 use Rattle.fused.specs.Laws.{fuse-is}
@@ -149,8 +150,16 @@ module _ {o : Outcome Arrangement} {p₀ : List Float} {c₀ s₀ w₀ : List �
 
 -- ---- the list behind a layout
 
+-- a facet for each face
+pub cycles-faces : (t : Precision) (room : ℕ) (cs : List Cell) (a : Arrangement) → arrangeCells t room cs ≡ ok a → All Sound cs → length (a .cycles) ≡ length (facesOf cs)
+unfolding arrangeCells
+cycles-faces t room cs a e h =
+    let x = then-ok (arrange t room (facesOf cs)) _ a e in
+    let g : x .0 .faces ≡ a .cycles = ap (λ q. q .cycles) (same-ok (x .2)) in
+    ap length (sym g) ∙ arranged t room (facesOf cs) (x .0) (x .1) (faces-wide cs h) .1
+
 -- a merged vertex is a corner of a face
-points-corners : (t : Precision) (room : ℕ) (cs : List Cell) (a : Arrangement) → arrangeCells t room cs ≡ ok a → length (a .points) ≤ corners 0 (facesOf cs)
+pub points-corners : (t : Precision) (room : ℕ) (cs : List Cell) (a : Arrangement) → arrangeCells t room cs ≡ ok a → length (a .points) ≤ corners 0 (facesOf cs)
 unfolding arrangeCells arrange
 points-corners t room cs a e =
     let x = then-ok (arrange t room (facesOf cs)) _ a e in
@@ -169,22 +178,25 @@ module _ {room : ℕ} {k : Stack} {d : List Float} {n z : List ℕ} (H : Holds r
   unfolding stackOf
   list-fine cs e = ap (λ x. x .verdict) (H .is ∙ ap stackOf e)
 
-  list-cells : (cs : List Cell) → listAt k d n z ≡ ok cs → k .cells ≡ length cs
+  pub list-cells : (cs : List Cell) → listAt k d n z ≡ ok cs → k .cells ≡ length cs
   unfolding stackOf
   list-cells cs e = ap (λ x. x .cells) (H .is ∙ ap stackOf e)
 
-  list-corners : (cs : List Cell) → listAt k d n z ≡ ok cs → corners 0 (facesOf cs) ≤ room
-  list-corners cs e =
-      let ss = list-stands H (list-fine cs e) in
-      let q : cellsAt d 0 n (take (k .cells) z) ≡ cs = same-ok (sym (heard-list (list-fine cs e)) ∙ e) in
-      omega (arith, faces-facing ss .fit, ap (corners 0) (faces-read ss), ap (λ l. corners 0 (facesOf l)) q)
+  -- the faces of the cells, one behind another
+  pub list-faces : (cs : List Cell) → listAt k d n z ≡ ok cs → Facing room (k .faces) d n × (cellAt d 0 (countsAt n 0 (k .faces)) ≡ facesOf cs)
+  list-faces cs e =
+      let S′ = list-stands H (list-fine cs e) in
+      (faces-facing S′, faces-read S′ ∙ ap facesOf (same-ok (sym (heard-list (list-fine cs e)) ∙ e)))
+
+  pub list-corners : (cs : List Cell) → listAt k d n z ≡ ok cs → corners 0 (facesOf cs) ≤ room
+  list-corners cs e = let q = list-faces cs e in omega (arith, q .0 .fit, ap (corners 0) (q .1))
 
   list-few : k .cells ≤ room
   list-few = let q = numbers room (listAt k d n z) k d n z H in omega (arith, q .fit, q .wide, q .some)
 
   module _ (t : Precision) {p₀ : List Float} {c₀ s₀ w₀ : List ℕ} {p : List Float} {c s w : List ℕ} {y : Layout} (L : Laid (then (listAt k d n z) (arrangeCells t room)) p₀ c₀ s₀ w₀ p c s w y)
       (points : 3 * room ≤ length p₀) (cycles : room ≤ length c₀) (starts : room < length s₀) (owners : room ≤ length w₀) where
-    facets-of : (a : Arrangement) (cs : List Cell) → listAt k d n z ≡ ok cs → arrangeCells t room cs ≡ ok a → Facets a room (k .cells)
+    pub facets-of : (a : Arrangement) (cs : List Cell) → listAt k d n z ≡ ok cs → arrangeCells t room cs ≡ ok a → Facets a room (k .cells)
     facets-of a cs e g = subst (Facets a room) (sym (list-cells cs e)) (arrangement-facets t room cs a g (H .lies cs e .sound))
 
     ready-by : (o : Outcome Arrangement) → then (listAt k d n z) (arrangeCells t room) ≡ o → y ≡ laidOf o → y .verdict ≡ Fine → Ready room y (k .cells) p c s w

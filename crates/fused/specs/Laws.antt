@@ -44,7 +44,7 @@ parts-back pre (c ∷ cs) (suc i) =
     ap (λ v. part v (bounds (length pre + length c) cs) i) (sym (append-assoc pre c (flat cs)))
     ∙ ap (λ k. part ((pre ++ c) ++ flat cs) (bounds k cs) i) (sym (length-append pre c)) ∙ parts-back (pre ++ c) cs i
 
-row-is : (cs : List (List ℕ)) (i : ℕ) → row (flat cs) (bounds 0 cs) i ≡ getD cs i []
+pub row-is : (cs : List (List ℕ)) (i : ℕ) → row (flat cs) (bounds 0 cs) i ≡ getD cs i []
 unfolding part
 row-is cs i = ap (λ k. slice (getD (bounds 0 cs) i 0) (getD (bounds 0 cs) k 0) (flat cs)) (add-one i) ∙ parts-back [] cs i
 
@@ -78,7 +78,7 @@ module _ (a : Arrangement) where
   unfolding facetsOf facetsIn
   facets-are = ap (λ f. map f (range (length (a .cycles)))) (fun-ext (λ i. ap (λ c. record { cell = getD (a .owners) i 0; vertices = c }) (row-is (a .cycles) i)))
 
-  corners-are : (i : ℕ) → facetPoints (floatsOf (a .points)) v starts i ≡ cornersIn a i
+  pub corners-are : (i : ℕ) → facetPoints (floatsOf (a .points)) v starts i ≡ cornersIn a i
   unfolding cornersIn
   corners-are i = ap₂ map (fun-ext (point-is (a .points))) (row-is (a .cycles) i)
 

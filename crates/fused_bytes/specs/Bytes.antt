@@ -1,6 +1,6 @@
 -- The bytes of the bodies that lie in slices. Definitions only.
 use mathlib.Core.Path.{_≡_}
-use mathlib.Core.List.{List}
+use mathlib.Core.List.{List, [], _∷_, _++_}
 use Prim.Native.Nat.{ℕ, _+_, _*_, _≤_, _<_}
 use lib.ListN.{length, take, getD}
 use lib.Seq.{sets}
@@ -8,6 +8,9 @@ use lib.Ieee.{Float}
 use Rattle.refusal.specs.declared.Refusal.{Refusal}
 use Rattle.refusal.specs.declared.Verdict.the-variants.{Fine, Refused}
 use Rattle.refusal.specs.Outcome.{Outcome, ok, refused, then, heard}
+use Rattle.space.specs.Shapes.{Face}
+use Rattle.words.specs.Little.{digits}
+use Rattle.answer.specs.Answers.{shellAnswer}
 use Rattle.room.specs.Rooms.{countsAt, Within}
 use Rattle.writer.specs.Rows.{row}
 use Rattle.keys.specs.Rows.{Starts}
@@ -17,6 +20,21 @@ use Rattle.fused_answer.specs.Bodies.{bodiesAt, Stacked}
 use Rattle.fused_answer.specs.Spots.{spotsFrom}
 use Rattle.fuse_list.specs.declared.Listing.{Listing}
 use Rattle.fused_bytes.specs.declared.Ended.{Ended}
+
+-- the first shell of a body is outward, the others are inward
+unfoldable pub shellsAnswer : ℕ → List (List Face) → List ℕ
+shellsAnswer sense [] = []
+shellsAnswer sense (g ∷ gs) = shellAnswer sense g ++ shellsAnswer 0 gs
+
+-- "for each body u32 shells"
+unfoldable pub bodyAnswer : List (List Face) → List ℕ
+bodyAnswer b = digits 4 (length b) ++ shellsAnswer 1 b
+
+unfoldable pub fusedAnswer : List (List (List Face)) → List ℕ
+fusedAnswer bs = row bodyAnswer bs
+
+unfoldable pub answerOf : Outcome (List (List (List Face))) → Outcome (List ℕ)
+answerOf o = then o (λ bs. ok (fusedAnswer bs))
 
 -- d and n: the faces of the cells; p, c, s: the arrangement; x, z, b: its bodies
 module _ (y : Listing) (d : List Float) (n : List ℕ) (p : List Float) (c s x z b spots : List ℕ) where

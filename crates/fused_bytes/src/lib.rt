@@ -1,9 +1,18 @@
 // The bytes of the bodies of a list of cells, out of the slices that `fuse_list` leaves.
 use fuse_list::Listing;
 use refusal::Verdict;
+use space::Precision;
+use stack::Stack;
 ghost use mathlib.Core.Path.{_≡_};
 ghost use Rattle.refusal.specs.declared.Verdict.the-variants.{Fine};
-ghost use Rattle.fused_bytes.specs.Bytes.{printAt, Printable, Answered};
+ghost use Prim.Native.Nat.{_*_, _≤_};
+ghost use lib.ListN.{length};
+ghost use Rattle.refusal.specs.Outcome.{then};
+ghost use Rattle.stack.specs.Stacks.{listAt, Holds};
+ghost use Rattle.arrangement.specs.Arrangements.{Lent};
+ghost use Rattle.fused.specs.Bodies.{fuseCells};
+ghost use Rattle.fuse_list.specs.Lists.{Tools};
+ghost use Rattle.fused_bytes.specs.Bytes.{answerOf, printAt, Printable, Answered};
 
 // A verdict, and how many bytes are written.
 pub struct Ended {
@@ -58,4 +67,81 @@ pub fn put_listing(
         verdict: Verdict::Fine,
         bytes,
     }
+}
+
+// The bytes of a list's bodies: its cells are arranged, fused and written; the first refusal stays. Everything that is lent but for
+// the list and the answer is work memory.
+pub fn fused_bytes(
+    t: Precision,
+    limit: usize,
+    list: Stack,
+    d: &[f64],
+    counts: &[u64],
+    sizes: &[u64],
+    points: &mut [f64],
+    corners: &mut [u64],
+    lows: &mut [f64],
+    highs: &mut [f64],
+    places: &mut [u64],
+    cycles: &mut [u64],
+    lengths: &mut [u64],
+    starts: &mut [u64],
+    owners: &mut [u64],
+    cells: &mut [u64],
+    cuts: &mut [u64],
+    runs: &mut [u64],
+    k: &mut [u64],
+    s: &mut [u64],
+    ord: &mut [u64],
+    ends: &mut [u64],
+    marks: &mut [u64],
+    out: &mut [u64],
+    many: &mut [u64],
+    shells: &mut [u64],
+    answer: &mut [u8],
+) -> Ended
+    requires { ⌜ Holds limit list (now d) (now counts) (now sizes) × Lent limit (now points) (now corners) (now lows) (now highs) (now places) (now cycles) (now lengths) (now starts) (now owners) × Tools limit (now corners) (now cells) (now cuts) (now lengths) (now runs) (now k) (now s) (now ord) (now ends) (now places) (now marks) (now out) (now many) (now shells) × (64 * limit ≤ length (now answer)) ⌝ }
+    ensures { λ r. ⌜ Answered (answerOf (then (listAt list (now (d .entry)) (now (counts .entry)) (now (sizes .entry))) (fuseCells t limit))) (now (answer .entry)) (now (answer .exit)) r ⌝ }
+{
+    let y = fuse_list::fuse_list(
+        t,
+        limit,
+        list,
+        d,
+        counts,
+        sizes,
+        points,
+        corners,
+        lows,
+        highs,
+        places,
+        cycles,
+        lengths,
+        starts,
+        owners,
+        cells,
+        cuts,
+        runs,
+        k,
+        s,
+        ord,
+        ends,
+        marks,
+        out,
+        many,
+        shells,
+    );
+    put_listing(
+        y,
+        d,
+        counts,
+        points,
+        cycles,
+        starts,
+        out,
+        many,
+        shells,
+        corners,
+        answer,
+    )
 }

@@ -1,0 +1,305 @@
+-- What `fuse_list` leaves can be written, and its bytes are those of the fused bodies.
+use mathlib.Core.Path.{_≡_, refl, sym, ap, ap₂, _∙_, subst}
+use mathlib.Core.List.{List, [], _∷_, _++_, map}
+use Prim.Native.Nat.{ℕ, suc, _+_, _*_, _≤_, _<_}
+use native.Mathlib.Omega.{arith}
+use lib.ListN.{length, take, drop, getD, length-append, length-map}
+use lib.Seq.{length-take-le, take-at}
+use lib.Ieee.{Float}
+use Rattle.refusal.specs.declared.Refusal.{Refusal}
+use Rattle.refusal.specs.declared.Verdict.the-variants.{Fine, Refused}
+use Rattle.refusal.specs.Outcome.{Outcome, ok, refused, then, heard}
+use Rattle.refusal.specs.Laws.{stop, go}
+use Rattle.space.specs.declared.Precision.{Precision}
+use Rattle.space.specs.Shapes.{Face, Cell}
+use Rattle.lists.specs.Walks.{cyclic}
+use Rattle.lists.specs.Laws.{length-cyclic}
+use Rattle.polygon.specs.Memory.{floatsOf}
+use Rattle.polygon.specs.Members.{same-ok, then-ok}
+use Rattle.room.specs.Rooms.{cellAt, countsAt, planeAt, Within}
+use Rattle.room.specs.Laws.{length-cellCounts}
+use Rattle.words.specs.Little.{digits}
+use Rattle.writer.specs.Rows.{row}
+use Rattle.answer.specs.Answers.{shellAnswer}
+use Rattle.stack.specs.declared.Stack.{Stack}
+use Rattle.stack.specs.Stacks.{listAt, Holds}
+use Rattle.sums.specs.Sum.{sum, Each}
+use Rattle.sums.specs.KeyLaws.{sum-append, each-getD, each-imp}
+use Rattle.groups.specs.Groups.{joined}
+use Rattle.listing.specs.Appended.{appended}
+use Rattle.listing.specs.Listed.{joined-both}
+use Rattle.keys.specs.Rows as K
+use Rattle.edges.specs.Laid.{rowRuns}
+use Rattle.bodies.specs.Fusing as F
+use Rattle.bodies.specs.Fusing.{Bodies, fuse, exterior}
+use Rattle.bodies.specs.ListLaws.{Valid, answered, listed-weight}
+use Rattle.interfaces.specs.Facets.{facetsOf, many-facets}
+use Rattle.volume.specs.Shell as O
+use Rattle.cavities.specs.Steps.{volumeOf}
+use Rattle.fusing.specs.Bench.{few-runs}
+use Rattle.parts.specs.Cells.{valid-cells}
+use Rattle.assembly.specs.Answer as A
+use Rattle.assembly.specs.Answer.{shellsIn}
+use Rattle.fuse.specs.Theorem.{Sound, Full, fuse-sound}
+use Rattle.arrangement.specs.Arrangements.{facesOf, Arrangement, arrangeCells, laidOf}
+use Rattle.arrangement.specs.Facts.{Facets, facets-many, vertices-are, cycles-wide}
+use Rattle.fused.specs.Bodies.{noFace, fuseIn, facetIn, drawnIn, fuseCells}
+use Rattle.fused.specs.Laws.{corners-are, row-is}
+use Rattle.fused_answer.specs.Fused.{facetOf, shellBytes, shellsBytes, bodyBytes}
+use Rattle.fused_answer.specs.Bodies.{bodiesAt, Stacked}
+use Rattle.fused_answer.specs.Spots.{spot-plane, spot-stored}
+use Rattle.fused_answer.specs.Lies.{laid-bodies, laid-stacked, laid-many}
+use Rattle.fused_answer.specs.Size.{bodies-fit}
+use Rattle.fuse_list.specs.declared.Listing.{Listing}
+use Rattle.fuse_list.specs.Lists.{bodiesOf, Ready, Told}
+use Rattle.fuse_list.specs.Laws.{points-are, starts-are, front-fused, points-corners, cycles-faces, list-cells, list-faces, list-corners, facets-of, list-ready}
+use Rattle.fused_bytes.specs.Bytes.{shellsAnswer, bodyAnswer, fusedAnswer, answerOf, spotsAt, printed, printAt, Printable, Answered}
+use Rattle.fused_bytes.specs.declared.Ended.{Ended}
+
+-- ---- lists of lists
+
+map-each : {A B : Type 0} (P : A → Type 0) (f g : A → B) (l : List A) → ((x : A) → P x → f x ≡ g x) → Each P l → map f l ≡ map g l
+map-each P f g [] h e = refl
+map-each P f g (x ∷ l) h e = ap₂ (λ a b. a ∷ b) (h x (e .0)) (map-each P f g l h (e .1))
+
+both : (P : ℕ → Type 0) (a c : List ℕ) → Each P (a ++ c) → Each P a × Each P c
+both P [] c w = (tt, w)
+both P (i ∷ a) c w = let r = both P a c (w .1) in ((w .0, r .0), r .1)
+
+each-shells : (P : ℕ → Type 0) (bs : Bodies) → Each P (joined (shellsIn bs)) → Each (λ b. Each P (joined b)) bs
+unfolding shellsIn
+each-shells P [] e = tt
+each-shells P (b ∷ bs) e = let r = both P (joined b) (joined (shellsIn bs)) (subst (Each P) (joined-both b (shellsIn bs)) e) in (r .0, each-shells P bs (r .1))
+
+sum-joined : (f : ℕ → ℕ) (gs : List (List ℕ)) → sum f (joined gs) ≡ sum (sum f) gs
+unfolding joined sum
+sum-joined f [] = refl
+sum-joined f (g ∷ gs) = sum-append f g (joined gs) ∙ ap (λ n. sum f g + n) (sum-joined f gs)
+
+sum-shells : (f : ℕ → ℕ) (bs : Bodies) → sum f (joined (shellsIn bs)) ≡ sum (sum (sum f)) bs
+unfolding shellsIn sum
+sum-shells f [] = unfold joined in refl
+sum-shells f (b ∷ bs) = ap (sum f) (joined-both b (shellsIn bs)) ∙ sum-append f (joined b) (joined (shellsIn bs)) ∙ omega (arith, sum-joined f b, sum-shells f bs)
+
+runs-size : (v starts : List ℕ) (p : ℕ) (l : List ℕ) → length (rowRuns v starts p l) ≡ sum (λ i. length (K.row v starts i)) l
+unfolding rowRuns sum
+runs-size v starts p [] = refl
+runs-size v starts p (i ∷ l) = omega (
+  arith,
+  length-append (map (F.runOf p) (cyclic (K.row v starts i))) (rowRuns v starts (suc p) l),
+  length-map (cyclic (K.row v starts i)) (F.runOf p),
+  length-cyclic (K.row v starts i),
+  runs-size v starts (suc p) l,
+)
+
+-- ---- the bytes of facets that are the same
+
+module _ (d : List Float) (spots : List ℕ) (ps : List Float) (v starts : List ℕ) (f : ℕ) (g : ℕ → Face) (same : (i : ℕ) → i < f → facetOf d spots ps v starts i ≡ g i) where
+  shells-same : (sense : ℕ) (gs : List (List ℕ)) → Each (λ i. i < f) (joined gs) → shellsBytes d spots ps v starts sense gs ≡ shellsAnswer sense (map (map g) gs)
+  unfolding shellsBytes shellsAnswer shellBytes joined
+  shells-same sense [] e = refl
+  shells-same sense (s ∷ gs) e =
+      let r = both (λ i. i < f) s (joined gs) e in
+      ap₂ (λ a b. shellAnswer sense a ++ b) (map-each (λ i. i < f) (facetOf d spots ps v starts) g s same (r .0)) (shells-same 0 gs (r .1))
+
+  bodies-same : (bs : Bodies) → Each (λ b. Each (λ i. i < f) (joined b)) bs → row (bodyBytes d spots ps v starts) bs ≡ fusedAnswer (map (map (map g)) bs)
+  unfolding row bodyBytes fusedAnswer bodyAnswer
+  bodies-same [] e = refl
+  bodies-same (b ∷ bs) e =
+      ap₂ (λ a c. a ++ c) (ap₂ (λ n l. digits 4 n ++ l) (sym (length-map b (map g))) (shells-same 1 b (e .0))) (bodies-same bs (e .1))
+
+-- ---- an answer of `fuse_list`
+
+module _ {room : ℕ} {k : Stack} {d : List Float} {n j : List ℕ} (H : Holds room k d n j) (t : Precision)
+    {p₀ : List Float} {c₀ s₀ w₀ x₀ z₀ b₀ : List ℕ} {p : List Float} {c s w x z b : List ℕ} {y : Listing} (T : Told t room (listAt k d n j) p₀ c₀ s₀ w₀ x₀ z₀ b₀ p c s w x z b y)
+    (points : 3 * room ≤ length p₀) (cycles : room ≤ length c₀) (starts : room < length s₀) (owners : room ≤ length w₀) where
+  abbrev ps : List Float
+  ps = take (3 * y .layout .points) p
+
+  abbrev vs : List ℕ
+  vs = take (y .layout .vertices) c
+
+  abbrev ss : List ℕ
+  ss = take (y .layout .facets + 1) s
+
+  abbrev f : ℕ
+  f = y .layout .facets
+
+  module _ (cs : List Cell) (a : Arrangement) (bs : Bodies) (e : listAt k d n j ≡ ok cs) (g : arrangeCells t room cs ≡ ok a) (h : fuseIn a (length cs) ≡ ok bs) (l : A.Laid (ok bs) x₀ z₀ b₀ x z b (y .fused)) where
+    told : then (listAt k d n j) (arrangeCells t room) ≡ ok a
+    told = go (listAt k d n j) (arrangeCells t room) cs e ∙ g
+
+    facts : Facets a room (k .cells)
+    facts = facets-of H t (T .arranged) points cycles starts owners a cs e g
+
+    few : length (a .points) ≤ room
+    few = omega (arith, points-corners t room cs a g, list-corners H cs e)
+
+    fine : y .layout .verdict ≡ Fine
+    unfolding laidOf
+    fine = ap (λ q. q .verdict) (T .arranged .is ∙ ap laidOf told)
+
+    ready : Ready room (y .layout) (k .cells) p c s w
+    ready = list-ready H t (T .arranged) points cycles starts owners fine
+
+    abbrev fs : List F.Facet
+    fs = facetsOf vs ss (take f w) f
+
+    fused : fuse (volumeOf ps vs ss) fs (k .cells) ≡ ok bs
+    fused = front-fused (T .arranged) told facts few points cycles starts owners ∙ ap (fuseIn a) (list-cells H cs e) ∙ h
+
+    valid : Valid fs (k .cells)
+    valid = valid-cells vs ss (take f w) f (k .cells) (ready .facetted .cells)
+
+    sound : Sound (volumeOf ps vs ss) fs (k .cells) x₀ z₀ b₀ x z b (y .fused)
+    unfolding A.Laid
+    sound = fuse-sound (volumeOf ps vs ss) fs (k .cells) valid x₀ z₀ b₀ x z b (y .fused) (subst (λ o. A.Laid o x₀ z₀ b₀ x z b (y .fused)) (sym fused) l) (ap (λ q. q .verdict) (l .0))
+
+    bodies-are : sound .bodies ≡ bs
+    bodies-are = same-ok (sym (sound .fused) ∙ fused)
+
+    inside : Each (λ i. i < f) (joined (shellsIn bs))
+    inside = subst (λ m. Each (λ i. i < m) (joined (shellsIn bs))) (many-facets vs ss (take f w) f) (subst (λ q. Each (λ i. i < length fs) (joined (shellsIn q))) bodies-are (sound .inside))
+
+    full : Each Full bs
+    full = subst (Each Full) bodies-are (sound .full)
+
+    -- how many there are
+    facets-told : y .fused .facets ≡ length (joined (shellsIn bs))
+    unfolding A.Laid
+    facets-told = ap (λ q. q .facets) (l .0)
+
+    bodies-told : y .fused .bodies ≡ length bs
+    unfolding A.Laid
+    bodies-told = ap (λ q. q .bodies) (l .0)
+
+    facets-long : length (joined (shellsIn bs)) ≤ length x
+    unfolding A.Laid appended
+    facets-long = omega (arith, ap length (l .1), length-append (joined (shellsIn bs)) (drop (0 + length (joined (shellsIn bs))) x₀))
+
+    facets-are : take (y .fused .facets) x ≡ joined (shellsIn bs)
+    unfolding A.Laid appended
+    facets-are = ap (λ i. take i x) facets-told ∙ ap (take (length (joined (shellsIn bs)))) (l .1) ∙ take-at (joined (shellsIn bs)) (drop (0 + length (joined (shellsIn bs))) x₀) (length (joined (shellsIn bs))) refl
+
+    stacked : Stacked (take (y .fused .facets) x) z 0 0 (countsAt b 0 (y .fused .bodies))
+    unfolding A.Laid
+    stacked = subst (λ i. Stacked (take i x) z 0 0 (countsAt b 0 (y .fused .bodies))) (sym facets-told)
+        (subst (λ i. Stacked (take (length (joined (shellsIn bs))) x) z 0 0 (countsAt b 0 i)) (sym bodies-told) (laid-stacked bs x₀ z₀ b₀ x z b (l .1) (l .2) (l .3)))
+
+    printed-are : (spots : List ℕ) → printed y d n p c s x z b spots ≡ row (bodyBytes d (spotsAt y d n p c s x z b spots) ps vs ss) bs
+    unfolding A.Laid printed
+    printed-are spots = ap (row (bodyBytes d (spotsAt y d n p c s x z b spots) ps vs ss)) (ap₂ (λ i m. bodiesAt (take i x) z 0 0 (countsAt b 0 m)) facets-told bodies-told ∙ laid-bodies bs x₀ z₀ b₀ x z b (l .1) (l .2) (l .3))
+
+    -- the facets are the cells' faces
+    faces-told : f ≡ k .faces
+    faces-told =
+        let q = list-faces H cs e in
+        let u : length (countsAt n 0 (k .faces)) ≡ k .faces = length-take-le (k .faces) n (q .0 .listed) in
+        omega (arith, facets-many (T .arranged) told facts cycles starts, cycles-faces t room cs a g (H .lies cs e .sound), ap length (q .1), length-cellCounts (cellAt d 0 (countsAt n 0 (k .faces))), ap length (q .0 .counts), u)
+
+    faces-listed : f ≤ length n
+    faces-listed = omega (arith, faces-told, list-faces H cs e .0 .listed)
+
+    -- each has three corners or more, and all of them fit the room
+    rows-are : (i : ℕ) → K.row vs ss i ≡ getD (a .cycles) i []
+    rows-are i = ap₂ (λ q m. K.row q m i) (vertices-are (T .arranged) told facts cycles starts) (starts-are (T .arranged) told facts few points cycles starts owners) ∙ row-is (a .cycles) i
+
+    wide : (i : ℕ) → i < f → 3 ≤ length (K.row vs ss i)
+    wide i q = omega (arith, ap length (rows-are i), cycles-wide (T .arranged) told facts cycles starts i q)
+
+    corners-few : sum (λ i. length (K.row vs ss i)) (joined (shellsIn bs)) ≤ room
+    corners-few =
+        let u : length vs ≡ y .layout .vertices = length-take-le (y .layout .vertices) c (ready .cycles) in
+        omega (
+          arith,
+          sum-shells (λ i. length (K.row vs ss i)) bs,
+          listed-weight (volumeOf ps vs ss) fs (k .cells) bs valid (answered (volumeOf ps vs ss) fs (k .cells) bs fused) (λ i. length (K.row vs ss i)),
+          runs-size vs ss 0 (exterior fs),
+          few-runs vs ss (take f w) f (exterior fs) (ready .facetted .cycles .fine) refl,
+          u,
+          ready .vertices,
+        )
+
+    bytes-few : (spots : List ℕ) → length (printed y d n p c s x z b spots) ≤ 64 * room
+    bytes-few spots =
+        omega (
+          arith,
+          ap length (printed-are spots),
+          bodies-fit d (spotsAt y d n p c s x z b spots) ps vs ss bs
+              (each-imp Full (λ q. 0 < length q) bs (λ q r. r .some) full)
+              (each-imp Full (Each (λ q. 0 < length q)) bs (λ q r. r .each) full)
+              (each-shells (λ i. 3 ≤ length (K.row vs ss i)) bs (each-imp (λ i. i < f) (λ i. 3 ≤ length (K.row vs ss i)) (joined (shellsIn bs)) wide inside)),
+          corners-few,
+        )
+
+    pub can-print : (spots out : List ℕ) → room ≤ 4611686018427387904 → room ≤ length spots → 64 * room ≤ length out → Printable y d n p c s x z b spots out
+    unfolding A.Laid
+    can-print spots out low q m = record {
+      few = ready .few;
+      low = omega (arith, ready .facets);
+      points = ready .points;
+      cycles = ready .cycles;
+      starts = ready .starts;
+      counts = faces-listed;
+      spotted = omega (arith, ready .facets);
+      within = subst (λ i. Within (countsAt n 0 i) 0 (length d)) (sym faces-told) (list-faces H cs e .0 .within);
+      rows = ready .facetted .cycles .fine;
+      vertices = ready .facetted .points;
+      listed = omega (arith, facets-told, facets-long);
+      inside = λ i v. each-getD (λ i. i < f) (take (y .fused .facets) x) 0 i (subst (Each (λ i. i < f)) (sym facets-are) inside) v;
+      bodies = omega (arith, bodies-told, laid-many bs x₀ z₀ b₀ x z b (l .1) (l .2) (l .3));
+      stacked = stacked;
+      fits = omega (arith, bytes-few spots, m);
+    }
+
+    -- a facet's plane is its face's, its corners are the points of its cycle
+    facet-same : (spots : List ℕ) → room ≤ length spots → (i : ℕ) → i < f → facetOf d (spotsAt y d n p c s x z b spots) ps vs ss i ≡ facetIn a (facesOf cs) i
+    unfolding facetOf facetIn spotsAt O.pointAt
+    facet-same spots q i v =
+        let u : length (countsAt n 0 f) ≡ f = length-take-le f n faces-listed in
+        let r : cellAt d 0 (countsAt n 0 f) ≡ facesOf cs = ap (λ m. cellAt d 0 (countsAt n 0 m)) faces-told ∙ list-faces H cs e .1 in
+        ap₂ (λ m q. record { plane = m; points = q })
+        (ap (planeAt d) (spot-stored spots (countsAt n 0 f) i (omega (arith, u, ready .facets)) (omega (arith, u))) ∙ spot-plane d 0 (countsAt n 0 f) i noFace (omega (arith, u)) ∙ ap (λ m. getD m i noFace .plane) r)
+        (ap (λ m. map (O.pointAt m) (K.row vs ss i)) (points-are (T .arranged) told facts few points cycles starts owners)
+        ∙ ap₂ (λ m q. map (O.pointAt (floatsOf (a .points))) (K.row m q i)) (vertices-are (T .arranged) told facts cycles starts) (starts-are (T .arranged) told facts few points cycles starts owners) ∙ corners-are a i)
+
+    pub prints : (spots : List ℕ) → room ≤ length spots → printed y d n p c s x z b spots ≡ fusedAnswer (drawnIn cs a bs)
+    prints spots q = printed-are spots ∙ bodies-same d (spotsAt y d n p c s x z b spots) ps vs ss f (facetIn a (facesOf cs)) (facet-same spots q) bs (each-shells (λ i. i < f) bs inside)
+
+  can-by : (spots out : List ℕ) → room ≤ 4611686018427387904 → room ≤ length spots → 64 * room ≤ length out → (o : Outcome Bodies) → then (listAt k d n j) (bodiesOf t room) ≡ o → A.Laid o x₀ z₀ b₀ x z b (y .fused) → y .fused .verdict ≡ Fine → Printable y d n p c s x z b spots out
+  unfolding bodiesOf A.Laid
+  can-by spots out low q m (ok bs) e l v =
+      let u = then-ok (listAt k d n j) (bodiesOf t room) bs e in
+      let r = then-ok (arrangeCells t room (u .0)) (λ a. fuseIn a (length (u .0))) bs (u .2) in
+      can-print (u .0) (r .0) bs (u .1) (r .1) (r .2) l spots out low q m
+  can-by spots out low q m (refused r) e l v = absurd (let u : Refused r ≡ Fine = sym (ap (λ q. q .verdict) l) ∙ v in let m : _≡_ {A = ℕ} 0 1 = cc in omega arith)
+
+  -- what is told can be written
+  pub listing-printable : (spots out : List ℕ) → room ≤ 4611686018427387904 → room ≤ length spots → 64 * room ≤ length out → y .fused .verdict ≡ Fine → Printable y d n p c s x z b spots out
+  listing-printable spots out low q m v = can-by spots out low q m (then (listAt k d n j) (bodiesOf t room)) refl (T .fused) v
+
+  drawn-stop : (cs : List Cell) (r : Refusal) (o : Outcome Arrangement) → then o (λ a. fuseIn a (length cs)) ≡ refused r → then o (λ a. then (fuseIn a (length cs)) (λ bs. ok (drawnIn cs a bs))) ≡ refused r
+  drawn-stop cs r (ok a) e = stop (fuseIn a (length cs)) (λ bs. ok (drawnIn cs a bs)) r e
+  drawn-stop cs r (refused q) e = let u : q ≡ r = cc in ap refused u
+
+  cells-stop : (r : Refusal) (o : Outcome (List Cell)) → then o (bodiesOf t room) ≡ refused r → then o (fuseCells t room) ≡ refused r
+  unfolding bodiesOf fuseCells
+  cells-stop r (ok cs) e = drawn-stop cs r (arrangeCells t room cs) e
+  cells-stop r (refused q) e = let u : q ≡ r = cc in ap refused u
+
+  bytes-by : (spots : List ℕ) → room ≤ length spots → (o : Outcome Bodies) → then (listAt k d n j) (bodiesOf t room) ≡ o → A.Laid o x₀ z₀ b₀ x z b (y .fused) → printAt y d n p c s x z b spots ≡ answerOf (then (listAt k d n j) (fuseCells t room))
+  unfolding bodiesOf fuseCells A.Laid printAt heard answerOf
+  bytes-by spots q (ok bs) e l =
+      let u = then-ok (listAt k d n j) (bodiesOf t room) bs e in
+      let r = then-ok (arrangeCells t room (u .0)) (λ a. fuseIn a (length (u .0))) bs (u .2) in
+      let made : then (listAt k d n j) (fuseCells t room) ≡ ok (drawnIn (u .0) (r .0) bs)
+      = go (listAt k d n j) (fuseCells t room) (u .0) (u .1) ∙ go (arrangeCells t room (u .0)) _ (r .0) (r .1) ∙ go (fuseIn (r .0) (length (u .0))) (λ bs. ok (drawnIn (u .0) (r .0) bs)) bs (r .2) in
+      ap (λ v. then (heard {A = Unit {0}} v tt) (λ _. ok (printed y d n p c s x z b spots))) (ap (λ q. q .verdict) (l .0))
+      ∙ ap ok (prints (u .0) (r .0) bs (u .1) (r .1) (r .2) l spots q) ∙ ap answerOf (sym made)
+  bytes-by spots q (refused r) e l =
+      ap (λ v. then (heard {A = Unit {0}} v tt) (λ _. ok (printed y d n p c s x z b spots))) (ap (λ q. q .verdict) l)
+      ∙ ap answerOf (sym (cells-stop r (listAt k d n j) e))
+
+  -- its bytes are those of the list's bodies
+  pub listing-answered : (spots : List ℕ) → room ≤ length spots → (out₀ out : List ℕ) (r : Ended) → Answered (printAt y d n p c s x z b spots) out₀ out r → Answered (answerOf (then (listAt k d n j) (fuseCells t room))) out₀ out r
+  listing-answered spots q out₀ out r h = subst (λ o. Answered o out₀ out r) (bytes-by spots q (then (listAt k d n j) (bodiesOf t room)) refl (T .fused)) h
