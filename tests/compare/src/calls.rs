@@ -2,6 +2,7 @@
 use crate::report::{Report, Told};
 use crate::Scale;
 use gen::calls::{self, hex, Question, MOST_CORNERS, MOST_MEMORY};
+use gen::family::Family;
 use gen::{cells, damage, facets, jobs, pairs, Random};
 use oracle::{Call, CellFile, Job, Solid, Tolerances, CORNER_BYTES};
 use port::calls::{Asked, Desk, Entry, Lending, CELLS, HOLLOW, MESH, OFFSET};
@@ -272,7 +273,7 @@ fn in_place(job: &Job, solids: Vec<Solid>) -> Vec<Vec<u8>> {
 /// Jobs of all families through a call of jobs.
 fn of_jobs(layer: &mut Layer, call: Call) {
     let any = |r: &mut Random| (jobs::FAMILIES[r.below(jobs::FAMILIES.len())].make)(r);
-    for jobs::Family { name, make, fewer } in jobs::FAMILIES {
+    for Family { name, make, fewer } in jobs::FAMILIES {
         layer.ask(name, EACH / fewer, |r| (call, make(r).bytes()));
     }
     layer.ask("damaged", 4 * EACH, |r| {
@@ -308,7 +309,7 @@ fn of_cells(layer: &mut Layer, call: fn(f64) -> Call) {
         let moved = (cells::FAMILIES[r.below(cells::FAMILIES.len())].make)(r);
         fit(r, moved)
     };
-    for cells::Family { name, make, fewer } in cells::FAMILIES {
+    for Family { name, make, fewer } in cells::FAMILIES {
         layer.ask(name, EACH / fewer, |r| {
             let moved = make(r);
             let moved = fit(r, moved);

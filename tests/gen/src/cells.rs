@@ -1,4 +1,5 @@
 //! Cells to offset and to hollow.
+use crate::family::{family, Family};
 use crate::jobs::{sliver, solid, split_side, tolerances};
 use crate::leaves::{flip, stepped};
 use crate::random::Random;
@@ -17,18 +18,7 @@ fn moved(tolerances: Tolerances, solid: Solid, by: f64) -> Moved {
     Moved { cell, by }
 }
 
-/// A family of cells: its name, how it is made, and how many times fewer are asked, where they take long.
-pub struct Family {
-    pub name: &'static str,
-    pub make: fn(&mut Random) -> Moved,
-    pub fewer: usize,
-}
-
-const fn family(name: &'static str, make: fn(&mut Random) -> Moved, fewer: usize) -> Family {
-    Family { name, make, fewer }
-}
-
-pub const FAMILIES: [Family; 10] = [
+pub const FAMILIES: [Family<Moved>; 10] = [
     family("boxes", |r| one(r, boxed), 1),
     family(
         "prisms",

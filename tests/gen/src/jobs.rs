@@ -1,4 +1,5 @@
 //! Families of jobs.
+use crate::family::{family, Family};
 use crate::random::Random;
 use crate::solid::{ball, cube, cuboid, gem, prism, pyramid, split_box, tetrahedron, Reshape};
 use oracle::{Job, Operation, Point, Solid, Tolerances};
@@ -202,18 +203,7 @@ pub fn any(random: &mut Random) -> Job {
     }
 }
 
-/// A family of jobs: its name, how it is made, and how many times fewer are asked, where they take long.
-pub struct Family {
-    pub name: &'static str,
-    pub make: fn(&mut Random) -> Job,
-    pub fewer: usize,
-}
-
-const fn family(name: &'static str, make: fn(&mut Random) -> Job, fewer: usize) -> Family {
-    Family { name, make, fewer }
-}
-
-pub const FAMILIES: [Family; 18] = [
+pub const FAMILIES: [Family<Job>; 18] = [
     family("boxes", |r| lattice(r.below(LATTICE)), 1),
     family(
         "prisms",

@@ -4,6 +4,7 @@ pub mod cells;
 pub mod cuts;
 pub mod damage;
 pub mod facets;
+pub mod family;
 pub mod jobs;
 pub mod leaves;
 pub mod pairs;
