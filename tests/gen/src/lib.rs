@@ -7,6 +7,7 @@ pub mod facets;
 pub mod family;
 pub mod jobs;
 pub mod leaves;
+pub mod lists;
 pub mod pairs;
 pub mod random;
 pub mod replay;
