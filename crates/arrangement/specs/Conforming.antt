@@ -188,6 +188,16 @@ unfolding All
 wide-faces [] a = tt
 wide-faces (f ∷ fs) a = (a .0, wide-faces fs (a .1))
 
+-- a facet for each face
+pub arranged-many : (t : Precision) (room : ℕ) (c : Cell) (s : Solid) → arrange t room c ≡ ok s → length (s .faces) ≡ length c
+unfolding arrange
+arranged-many t room c s e =
+    let z = then-ok (merge t c) _ s e in
+    let y = then-ok (conformAll t room (z .0 .points) (z .0 .faces)) _ s (z .2) in
+    let b = merge-below t c (z .0) (z .1) in
+    let g : length (y .0) ≡ length (s .faces) = ap (λ x. length (x .faces)) (same-ok (y .2)) in
+    omega (arith, g, conform-many t room (z .0 .points) (z .0 .faces) (y .0) (y .1), ap length (b .1), length-map (z .0 .faces) length, length-cellCounts c)
+
 pub arranged : (t : Precision) (room : ℕ) (c : Cell) (s : Solid) → arrange t room c ≡ ok s → Wide c → Conforms (length (s .points)) room (s .faces) × (length (s .faces) ≡ length c) × (length (s .points) ≤ 4096)
 unfolding arrange
 arranged t room c s e a =
@@ -196,11 +206,8 @@ arranged t room c s e a =
     let y = then-ok (conformAll t room (m .points) (m .faces)) _ s (z .2) in
     let b = merge-below t c (z .0) (z .1) in
     let w = wide-faces (m .faces) (subst (All (λ k. 3 ≤ k)) (sym (b .1)) (wide-counts c a)) in
-    subst (λ x. Conforms (length (x .points)) room (x .faces) × (length (x .faces) ≡ length c) × (length (x .points) ≤ 4096)) (same-ok (y .2)) (
-      faces-kept t room (m .points) (m .faces) (y .0) (y .1) (all-both _ _ _ (m .faces) (λ f p q. (p, q)) (b .0) w),
-      omega (arith, conform-many t room (z .0 .points) (z .0 .faces) (y .0) (y .1), ap length (b .1), length-map (z .0 .faces) length, length-cellCounts c),
-      b .2,
-    )
+    let q = subst (λ x. Conforms (length (x .points)) room (x .faces) × (length (x .points) ≤ 4096)) (same-ok (y .2)) (faces-kept t room (m .points) (m .faces) (y .0) (y .1) (all-both _ _ _ (m .faces) (λ f p q. (p, q)) (b .0) w), b .2) in
+    (q .0, arranged-many t room c s e, q .1)
 
 -- ---- no more points than corners
 

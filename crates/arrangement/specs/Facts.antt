@@ -21,7 +21,7 @@ use Rattle.arrange.specs.Merged.{Below}
 use Rattle.groups.specs.Groups.{joined, bounds, Grouped}
 use Rattle.arrangement.specs.declared.Layout.{Layout}
 use Rattle.arrangement.specs.Arrangements.{facesOf, Arrangement, arrangeCells, laidOf, Laid}
-use Rattle.arrangement.specs.Conforming.{Conforms, arranged}
+use Rattle.arrangement.specs.Conforming.{Conforms, arranged-many, arranged}
 use Rattle.arrangement.specs.Laws.{faces-wide, owners-many}
 
 -- ---- of the definition
@@ -49,19 +49,23 @@ pub record Facets (a : Arrangement) (room k : ℕ) : Type 0 where
   pub owned : length (a .owners) ≡ length (a .cycles)
   pub owners : All (λ i. i < k) (a .owners)
 
+-- each facet is of one of the cells
+pub arrangement-owned : (t : Precision) (room : ℕ) (cs : List Cell) (a : Arrangement) → arrangeCells t room cs ≡ ok a → (length (a .owners) ≡ length (a .cycles)) × All (λ i. i < length cs) (a .owners)
+unfolding arrangeCells
+arrangement-owned t room cs a e =
+    let z = then-ok (arrange t room (facesOf cs)) _ a e in
+    let m = arranged-many t room (facesOf cs) (z .0) (z .1) in
+    subst (λ x. (length (x .owners) ≡ length (x .cycles)) × All (λ i. i < length cs) (x .owners)) (same-ok (z .2)) (omega (arith, owners-many 0 cs, m), owners-low 0 cs (length cs) (omega arith))
+
 pub arrangement-facets : (t : Precision) (room : ℕ) (cs : List Cell) (a : Arrangement) → arrangeCells t room cs ≡ ok a → All Sound cs → Facets a room (length cs)
 unfolding arrangeCells
 arrangement-facets t room cs a e sound =
     let z = then-ok (arrange t room (facesOf cs)) _ a e in
-    let s = z .0 in
     let y = arranged t room (facesOf cs) (z .0) (z .1) (faces-wide cs sound) in
-    subst (λ x. Facets x room (length cs)) (same-ok (z .2)) (record {
-      conforms = y .0;
-      few = y .2;
-      many = omega (arith, wide-flat (z .0 .faces) (y .0 .wide), y .0 .fit);
-      owned = omega (arith, owners-many 0 cs, y .1);
-      owners = owners-low 0 cs (length cs) (omega arith);
-    })
+    let n : length (z .0 .faces) ≤ room = omega (arith, wide-flat (z .0 .faces) (y .0 .wide), y .0 .fit) in
+    let q = subst (λ x. Conforms (length (x .points)) room (x .cycles) × (length (x .points) ≤ 4096) × (length (x .cycles) ≤ room)) (same-ok (z .2)) (y .0, y .2, n) in
+    let o = arrangement-owned t room cs a e in
+    record { conforms = q .0; few = q .1; many = q .2; owned = o .0; owners = o .1 }
 
 -- ---- of the slices
 

@@ -2,7 +2,8 @@
 use refusal::Refusal;
 use refusal::Verdict;
 ghost use mathlib.Core.Path.{_≡_};
-ghost use Rattle.ended.specs.Ends.{stopped, answered};
+ghost use Prim.Native.Nat.{_<_};
+ghost use Rattle.ended.specs.Ends.{stopped, answered, toldBy};
 
 pub struct Ended {
     pub verdict: Verdict,
@@ -24,5 +25,16 @@ pub fn answer(n: usize) -> Ended
     Ended {
         verdict: Verdict::Fine,
         bytes: n,
+    }
+}
+
+// What an entry point hands back: the number, and 256 times the bytes.
+pub fn told_by(v: Verdict, n: usize) -> u64
+    requires { ⌜ n < 72057594037927936 ⌝ }
+    ensures { λ r. ⌜ r ≡ toldBy v n ⌝ }
+{
+    match v {
+        Verdict::Fine => 256 * (n as u64),
+        Verdict::Refused(r) => r.number,
     }
 }
