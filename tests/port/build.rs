@@ -9,6 +9,7 @@ fn main() {
         "vector_leaves",
         "cut_leaves",
         "fuse_leaf",
+        "split_leaf",
         "mesh_leaf",
         "solid_leaves",
         "solid_cells",

@@ -7,9 +7,9 @@ use gen::Random;
 use oracle::{bodies_bytes, leaf};
 use port::fusing::{Fuser, Given, NONE};
 
-const EACH: usize = 20_000;
+const EACH: usize = 5_000;
 
-fn given(list: &List) -> Given {
+pub fn given(list: &List) -> Given {
     let faces = || list.cells.iter().flatten();
     let floats = faces().flat_map(|f| f.plane.iter().chain(f.points.as_flattened()));
     let count = |n: usize| n as u64;

@@ -9,6 +9,7 @@ mod mesh;
 mod numbers;
 mod report;
 mod solids;
+mod splitting;
 mod vectors;
 
 use report::Report;
@@ -43,12 +44,13 @@ impl Scale {
 type Layer = fn(&mut Report, u64, Scale);
 
 /// Each layer's name, what it asks, and what is added to the seed.
-const LAYERS: [(&str, Layer, u64); 10] = [
+const LAYERS: [(&str, Layer, u64); 11] = [
     ("numbers", numbers::compare, 0),
     ("vectors", vectors::compare, 100),
     ("cutting", cutting::compare, 200),
     ("mesh", mesh::compare, 300),
     ("solids", solids::compare, 400),
+    ("splitting", splitting::compare, 425),
     ("fusing", fusing::compare, 450),
     ("cells", calls::cells, 500),
     ("offset", calls::offset, 600),

@@ -1,10 +1,11 @@
 //! Lists of cells for the steps of fusing. Their faces need not close, so that refusals come up that no whole job meets.
+use crate::cuts;
 use crate::family::{family, Family};
 use crate::jobs::{self, tolerances};
 use crate::leaves::{self, axis_plane};
 use crate::random::Random;
 use crate::solid::{add, tetrahedron, Reshape};
-use oracle::{leaf, Cell, Face, Point, Solid, Tolerances};
+use oracle::{leaf, Cell, Face, Plane, Point, Solid, Tolerances};
 
 /// Cells, and the room that their arrangement has.
 #[derive(Clone, Debug)]
@@ -48,7 +49,7 @@ fn cell(faces: &Corners) -> Cell {
 fn list(random: &mut Random, tolerances: Tolerances, cells: Vec<Cell>) -> List {
     let room = match random.below(4) {
         0 => corners(&cells) + random.below(3),
-        _ => ROOM,
+        _ => (2 * corners(&cells)).clamp(720, ROOM),
     };
     List {
         tolerances,
@@ -192,6 +193,67 @@ fn pieces(random: &mut Random) -> List {
             return list(random, t, cells);
         }
     }
+}
+
+/// Cells, the planes that split them, and the room of each list.
+#[derive(Clone, Debug)]
+pub struct Split {
+    pub list: List,
+    pub planes: Vec<Plane>,
+}
+
+/// The most corners that the port's leaf of `split_cells` has memory for.
+pub const SPLIT_ROOM: usize = 6400;
+
+pub const SPLITS: [Family<Split>; 2] = [
+    family("cells and planes", split, 1),
+    family("about 512 cells", split_many, 200),
+];
+
+/// One or two cells of one family of cuts, and the planes of one to four cuts.
+fn split(random: &mut Random) -> Split {
+    let make = random.pick(&cuts::FAMILIES).1;
+    let cuts: Vec<_> = (0..random.between(1, 4)).map(|_| make(random)).collect();
+    let cells = cuts
+        .iter()
+        .take(random.between(1, 2))
+        .map(|c| c.cell.clone());
+    let fits = |c: &Cell| {
+        (1..=128).contains(&c.len()) && c.iter().all(|f| (3..=128).contains(&f.points.len()))
+    };
+    let cells: Vec<_> = cells.filter(fits).collect();
+    let room = match random.below(3) {
+        0 => corners(&cells) + random.below(48),
+        _ => SPLIT_ROOM,
+    };
+    let planes = cuts.iter().map(|c| c.plane).collect();
+    let tolerances = cuts[0].tolerances;
+    let list = List {
+        tolerances,
+        room,
+        cells,
+    };
+    Split { list, planes }
+}
+
+/// Tetrahedra in a row, and planes that cut one of them or none.
+fn split_many(random: &mut Random) -> Split {
+    let n = random.between(509, 513);
+    let at = |i: usize| {
+        let solid = tetrahedron(1.0).shifted([2.0 * i as f64, 0.0, 0.0]);
+        leaf::check(&Tolerances::USUAL, &solid, true).expect("a tetrahedron")
+    };
+    let mut plane = || {
+        let place = 2.0 * random.below(n) as f64;
+        axis_plane(0, place + random.pick(&[0.25, 0.5, 1.5]), random.coin())
+    };
+    let planes = (0..3).map(|_| plane()).collect();
+    let list = List {
+        tolerances: Tolerances::USUAL,
+        room: SPLIT_ROOM,
+        cells: (0..n).map(at).collect(),
+    };
+    Split { list, planes }
 }
 
 const O: Point = [0.0, 0.0, 0.0];

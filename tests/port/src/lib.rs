@@ -6,4 +6,5 @@ pub mod guard;
 pub mod leaves;
 pub mod mesh;
 pub mod solids;
+pub mod splitting;
 pub mod vectors;
