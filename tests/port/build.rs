@@ -8,6 +8,7 @@ fn main() {
         "leaves",
         "vector_leaves",
         "cut_leaves",
+        "fuse_leaf",
         "mesh_leaf",
         "solid_leaves",
         "solid_cells",

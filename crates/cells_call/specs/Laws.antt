@@ -1,15 +1,13 @@
 -- Laws of the call, in the words of the code.
-use mathlib.Core.Path.{_≡_, refl, sym, ap, ap₂, _∙_, subst}
+use mathlib.Core.Path.{_≡_, sym, ap, _∙_, subst}
 use mathlib.Core.List.{List}
 use Prim.Native.Nat.{ℕ, _*_, _≤_}
 use native.Mathlib.Omega.{arith}
 use lib.ListN.{length}
 use lib.Ieee.{Float}
 use Rattle.refusal.specs.declared.Refusal.{Refusal}
-use Rattle.refusal.specs.declared.Verdict.{Verdict}
 use Rattle.refusal.specs.declared.Verdict.the-variants as D
-use Rattle.refusal.specs.Outcome.{Outcome, ok, refused, then}
-use Rattle.refusal.specs.Laws.{stop, go}
+use Rattle.refusal.specs.Outcome.{Outcome, refused}
 use Rattle.space.specs.Shapes.{Cell}
 use Rattle.room.specs.Rooms.{cellAt, countsAt}
 use Rattle.clip.specs.Clips.{Given, Wide}
@@ -24,7 +22,8 @@ use Rattle.cells_answer.specs.Call.{cellsCall}
 use Rattle.job.specs.declared.Layout.{Layout}
 use Rattle.intake.specs.Intake.{Stands}
 use Rattle.jobs.specs.declared.Pair.{Pair}
-use Rattle.jobs.specs.Jobs.{Both, bothOf, pairOf, TookBoth}
+use Rattle.jobs.specs.Jobs.{bothOf, TookBoth}
+use Rattle.jobs.specs.Laws.{pair-stop, pair-cells, pair-go}
 use Rattle.cells_call.specs.Calls.{operationAs, cellsBoth, cellsLaid, Lent}
 
 -- ---- the slices
@@ -58,58 +57,27 @@ sits S = record { given = record { listed = S .listed; within = S .within }; wid
 
 -- ---- the two solids
 
-Fair : Verdict → Type 0
-Fair D.Fine = Unit {0}
-Fair (D.Refused x) = ⊥
-
-never-fine : {A : Type 0} {q : Refusal} → D.Fine ≡ D.Refused q → A
-unfolding Fair
-never-fine h = absurd (subst Fair h tt)
-
-reason : Refusal → Verdict → Refusal
-reason p D.Fine = p
-reason p (D.Refused x) = x
-
-same-refused : {p q : Refusal} → D.Refused p ≡ D.Refused q → p ≡ q
-unfolding reason
-same-refused {p} h = ap (reason p) h
-
-pair-fine : (o : Outcome Both) (r : Pair) → r ≡ pairOf o → r .verdict ≡ D.Fine → (p : Both) × (o ≡ ok p)
-unfolding pairOf
-pair-fine (ok p) r e v = (p, refl)
-pair-fine (refused q) r e v = never-fine (sym v ∙ ap (λ x. x .verdict) e)
-
-pair-not : (o : Outcome Both) (r : Pair) (q : Refusal) → r ≡ pairOf o → r .verdict ≡ D.Refused q → o ≡ refused q
-unfolding pairOf
-pair-not (ok p) r q e v = never-fine (sym (ap (λ x. x .verdict) e) ∙ v)
-pair-not (refused p) r q e v = ap refused (same-refused (sym (ap (λ x. x .verdict) e) ∙ v))
-
 module _ (l : List ℕ) (y : Layout) (r : Pair) (a : List Float) (held : List ℕ) (b : List Float) (counts : List ℕ) (T : TookBoth (bothOf l y) r a held b counts) where
   pub laid-stop : (room : ℕ) (q : Refusal) (answer : List ℕ) → r .verdict ≡ D.Refused q →
       (record { verdict = r .verdict; bytes = 0 } ≡ endedOf (cellsLaid l room y)) × (answer ≡ written (cellsLaid l room y) answer)
   unfolding cellsLaid endedOf written
   laid-stop room q answer v =
-      let e : cellsLaid l room y ≡ refused q = stop (bothOf l y) (cellsBoth room y) q (pair-not (bothOf l y) r q (T .is) v) in
+      let e : cellsLaid l room y ≡ refused q = pair-stop l y r a held b counts T (cellsBoth room y) q v in
       (ap (λ x. record { verdict = x; bytes = 0 }) v ∙ ap endedOf (sym e), ap (λ o. written o answer) (sym e))
 
   -- the cells in their rooms
   pub laid-cells : r .verdict ≡ D.Fine → Sits (r .first) a held × Given b 0 counts 0 (r .second) × Wide (cellAt b 0 (countsAt counts 0 (r .second))) × (1 ≤ r .second) × (r .second ≤ 128)
   laid-cells v =
-      let p = pair-fine (bothOf l y) r (T .is) v in
-      let f = T .first (p .0) (p .1) in
-      let s = T .second (p .0) (p .1) in
-      (sits f, record { listed = s .listed; within = s .within }, s .wide, omega (arith, s .some), omega (arith, s .few))
+      let p = pair-cells l y r a held b counts T v in
+      let s = p .3 in
+      (sits (p .2), record { listed = s .listed; within = s .within }, s .wide, omega (arith, s .some), omega (arith, s .few))
 
   pub laid-is : (room : ℕ) (op : P.Operation) → r .verdict ≡ D.Fine → op ≡ operationAs (y .operation) →
       cellsCall op (y .precision) room (cellAt a 0 (countsAt held 0 (r .first))) (cellAt b 0 (countsAt counts 0 (r .second))) ≡ cellsLaid l room y
   unfolding cellsLaid
   laid-is room op v e =
-      let p = pair-fine (bothOf l y) r (T .is) v in
-      let f = T .first (p .0) (p .1) in
-      let s = T .second (p .0) (p .1) in
       ap (λ x. cellsCall x (y .precision) room (cellAt a 0 (countsAt held 0 (r .first))) (cellAt b 0 (countsAt counts 0 (r .second)))) e
-      ∙ ap₂ (λ x z. cellsCall (operationAs (y .operation)) (y .precision) room x z) (f .is) (s .is)
-      ∙ sym (go (bothOf l y) (cellsBoth room y) (p .0) (p .1))
+      ∙ pair-go l y r a held b counts T (cellsCall (operationAs (y .operation)) (y .precision) room) v
 
   pub laid-go : (room : ℕ) (op : P.Operation) (answer answer′ : List ℕ) (e : Ended) → r .verdict ≡ D.Fine → op ≡ operationAs (y .operation) →
       e ≡ endedOf (cellsCall op (y .precision) room (cellAt a 0 (countsAt held 0 (r .first))) (cellAt b 0 (countsAt counts 0 (r .second)))) →

@@ -16,7 +16,7 @@ ghost use Rattle.intake.specs.Layouts.{Stood};
 ghost use Rattle.cells_call.specs.Calls.{operationAs, Lent, cellsLaid};
 
 // The same operation in the words of `cells`.
-fn operation_as(o: job::Operation) -> cells::Operation
+pub fn operation_as(o: job::Operation) -> cells::Operation
     ensures { λ r. ⌜ r ≡ operationAs o ⌝ }
 {
     match o {

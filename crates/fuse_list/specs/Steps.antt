@@ -76,8 +76,8 @@ module _ (y : Layout) (n : ℕ) (p : List Float) (c s w : List ℕ) (x₀ z₀ b
       subst (λ u. Laid (then (heard {A = Unit {0}} u tt) (λ _. fuse (volumeOf (take (3 * y .points) p) vs ss) (facetsOf vs ss (take (y .facets) w) (y .facets)) n)) x₀ z₀ b₀ x z b r) (sym v) l
 
 -- slices of the same lengths serve as well
-pub tools-on : {room : ℕ} {e c u f d k s o l q m x z b : List ℕ} (e′ f′ q′ : List ℕ) → Tools room e c u f d k s o l q m x z b → length e′ ≡ length e → length f′ ≡ length f → length q′ ≡ length q → Tools room e′ c u f′ d k s o l q′ m x z b
-tools-on e′ f′ q′ T he hf hq = record {
+pub tools-on : {room : ℕ} {e c u f d k s o l q m x z b : List ℕ} (e′ f′ : List ℕ) → Tools room e c u f d k s o l q m x z b → length e′ ≡ length e → length f′ ≡ length f → Tools room e′ c u f′ d k s o l q m x z b
+tools-on e′ f′ T he hf = record {
   low = T .low;
   ext = omega (arith, T .ext, he);
   cells = T .cells;
@@ -89,7 +89,7 @@ tools-on e′ f′ q′ T he hf hq = record {
   order = T .order;
   ends = T .ends;
   links = T .links;
-  nodes = omega (arith, T .nodes, hq);
+  nodes = T .nodes;
   marks = T .marks;
   out = T .out;
   sizes = T .sizes;

@@ -1,13 +1,10 @@
 -- The bytes of the bodies that lie in slices. Definitions only.
-use mathlib.Core.Path.{_≡_}
 use mathlib.Core.List.{List, [], _∷_, _++_}
 use Prim.Native.Nat.{ℕ, _+_, _*_, _≤_, _<_}
 use lib.ListN.{length, take, getD}
 use lib.Seq.{sets}
 use lib.Ieee.{Float}
-use Rattle.refusal.specs.declared.Refusal.{Refusal}
-use Rattle.refusal.specs.declared.Verdict.the-variants.{Fine, Refused}
-use Rattle.refusal.specs.Outcome.{Outcome, ok, refused, then, heard}
+use Rattle.refusal.specs.Outcome.{Outcome, ok, then, heard}
 use Rattle.space.specs.Shapes.{Face}
 use Rattle.words.specs.Little.{digits}
 use Rattle.answer.specs.Answers.{shellAnswer}
@@ -19,7 +16,6 @@ use Rattle.fused_answer.specs.Fused.{bodyBytes}
 use Rattle.fused_answer.specs.Bodies.{bodiesAt, Stacked}
 use Rattle.fused_answer.specs.Spots.{spotsFrom}
 use Rattle.fuse_list.specs.declared.Listing.{Listing}
-use Rattle.fused_bytes.specs.declared.Ended.{Ended}
 
 -- the first shell of a body is outward, the others are inward
 unfoldable pub shellsAnswer : ℕ → List (List Face) → List ℕ
@@ -67,13 +63,3 @@ module _ (y : Listing) (d : List Float) (n : List ℕ) (p : List Float) (c s x z
     pub bodies : y .fused .bodies ≤ length b
     pub stacked : Stacked (take (y .fused .facets) x) z 0 0 (countsAt b 0 (y .fused .bodies))
     pub fits : length printed ≤ length out
-
-unfoldable pub endedOf : Outcome (List ℕ) → Ended
-endedOf (ok l) = record { verdict = Fine; bytes = length l }
-endedOf (refused e) = record { verdict = Refused e; bytes = 0 }
-
--- 01: a refusal hands back its number and no bodies; the answer is untouched then
-pub record Answered (o : Outcome (List ℕ)) (out₀ out : List ℕ) (r : Ended) : Type 0 where
-  pub is : r ≡ endedOf o
-  pub bytes : (l : List ℕ) → o ≡ ok l → out ≡ sets out₀ 0 l
-  pub same : (e : Refusal) → o ≡ refused e → out ≡ out₀

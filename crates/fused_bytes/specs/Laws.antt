@@ -41,6 +41,8 @@ use Rattle.parts.specs.Cells.{valid-cells}
 use Rattle.assembly.specs.Answer as A
 use Rattle.assembly.specs.Answer.{shellsIn}
 use Rattle.fuse.specs.Theorem.{Sound, Full, fuse-sound}
+use Rattle.ended.specs.declared.Ended.{Ended}
+use Rattle.ended.specs.Ends.{endedOf, written}
 use Rattle.arrangement.specs.Arrangements.{facesOf, Arrangement, arrangeCells, laidOf}
 use Rattle.arrangement.specs.Facts.{Facets, facets-many, vertices-are, cycles-wide}
 use Rattle.fused.specs.Bodies.{noFace, fuseIn, facetIn, drawnIn, fuseCells}
@@ -53,8 +55,7 @@ use Rattle.fused_answer.specs.Size.{bodies-fit}
 use Rattle.fuse_list.specs.declared.Listing.{Listing}
 use Rattle.fuse_list.specs.Lists.{bodiesOf, Ready, Told}
 use Rattle.fuse_list.specs.Laws.{points-are, starts-are, front-fused, points-corners, cycles-faces, list-cells, list-faces, list-corners, facets-of, list-ready}
-use Rattle.fused_bytes.specs.Bytes.{shellsAnswer, bodyAnswer, fusedAnswer, answerOf, spotsAt, printed, printAt, Printable, Answered}
-use Rattle.fused_bytes.specs.declared.Ended.{Ended}
+use Rattle.fused_bytes.specs.Bytes.{shellsAnswer, bodyAnswer, fusedAnswer, answerOf, spotsAt, printed, printAt, Printable}
 
 -- ---- lists of lists
 
@@ -300,6 +301,23 @@ module _ {room : ℕ} {k : Stack} {d : List Float} {n j : List ℕ} (H : Holds r
       ap (λ v. then (heard {A = Unit {0}} v tt) (λ _. ok (printed y d n p c s x z b spots))) (ap (λ q. q .verdict) l)
       ∙ ap answerOf (sym (cells-stop r (listAt k d n j) e))
 
-  -- its bytes are those of the list's bodies
-  pub listing-answered : (spots : List ℕ) → room ≤ length spots → (out₀ out : List ℕ) (r : Ended) → Answered (printAt y d n p c s x z b spots) out₀ out r → Answered (answerOf (then (listAt k d n j) (fuseCells t room))) out₀ out r
-  listing-answered spots q out₀ out r h = subst (λ o. Answered o out₀ out r) (bytes-by spots q (then (listAt k d n j) (bodiesOf t room)) refl (T .fused)) h
+  few-by : (spots : List ℕ) (o : Outcome Bodies) → then (listAt k d n j) (bodiesOf t room) ≡ o → A.Laid o x₀ z₀ b₀ x z b (y .fused) → endedOf (printAt y d n p c s x z b spots) .bytes ≤ 64 * room
+  unfolding bodiesOf A.Laid printAt heard endedOf
+  few-by spots (ok bs) e l =
+      let u = then-ok (listAt k d n j) (bodiesOf t room) bs e in
+      let r = then-ok (arrangeCells t room (u .0)) (λ a. fuseIn a (length (u .0))) bs (u .2) in
+      let m : endedOf (printAt y d n p c s x z b spots) .bytes ≡ length (printed y d n p c s x z b spots)
+      = ap (λ v. endedOf (then (heard {A = Unit {0}} v tt) (λ _. ok (printed y d n p c s x z b spots))) .bytes) (ap (λ q. q .verdict) (l .0)) in
+      omega (arith, m, bytes-few (u .0) (r .0) bs (u .1) (r .1) (r .2) l spots)
+  few-by spots (refused r) e l =
+      let m : endedOf (printAt y d n p c s x z b spots) .bytes ≡ 0
+      = ap (λ v. endedOf (then (heard {A = Unit {0}} v tt) (λ _. ok (printed y d n p c s x z b spots))) .bytes) (ap (λ q. q .verdict) l) in
+      omega (arith, m)
+
+  -- its bytes are those of the list's bodies, and at most 64 for each corner of the room
+  pub listing-answered : (spots : List ℕ) → room ≤ length spots → (out₀ out : List ℕ) (r : Ended) → r ≡ endedOf (printAt y d n p c s x z b spots) → out ≡ written (printAt y d n p c s x z b spots) out₀ →
+      ((r ≡ endedOf (answerOf (then (listAt k d n j) (fuseCells t room)))) × (r .bytes ≤ 64 * room)) × (out ≡ written (answerOf (then (listAt k d n j) (fuseCells t room))) out₀)
+  listing-answered spots q out₀ out r h g =
+      let u = bytes-by spots q (then (listAt k d n j) (bodiesOf t room)) refl (T .fused) in
+      let m = few-by spots (then (listAt k d n j) (bodiesOf t room)) refl (T .fused) in
+      ((h ∙ ap endedOf u, subst (λ e. e .bytes ≤ 64 * room) (sym h) m), g ∙ ap (λ o. written o out₀) u)

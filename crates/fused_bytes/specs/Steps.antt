@@ -9,18 +9,15 @@ use lib.Ieee.{Float}
 use Rattle.refusal.specs.declared.Refusal.{Refusal}
 use Rattle.refusal.specs.declared.Verdict.the-variants.{Fine, Refused}
 use Rattle.refusal.specs.Outcome.{Outcome, ok, refused, then, heard}
-use Rattle.polygon.specs.Members.{same-ok, never-ok}
 use Rattle.room.specs.Rooms.{countsAt}
+use Rattle.ended.specs.declared.Ended.{Ended}
+use Rattle.ended.specs.Ends.{endedOf, written}
 use Rattle.writer.specs.Rows.{row}
 use Rattle.fused_answer.specs.Fused.{Drawn, bodyBytes}
 use Rattle.fused_answer.specs.Bodies.{bodiesAt}
 use Rattle.fused_answer.specs.Spots.{spotsFrom, spot-within, spot-stored}
 use Rattle.fuse_list.specs.declared.Listing.{Listing}
-use Rattle.fused_bytes.specs.declared.Ended.{Ended}
-use Rattle.fused_bytes.specs.Bytes.{spotsAt, printed, printAt, Printable, endedOf, Answered}
-
-never-refused : {A B : Type 0} {a : A} {e : Refusal} → _≡_ {A = Outcome A} (ok a) (refused e) → B
-never-refused h = absurd (let m : _≡_ {A = ℕ} 0 1 = cc in omega arith)
+use Rattle.fused_bytes.specs.Bytes.{spotsAt, printed, printAt, Printable}
 
 module _ (y : Listing) (d : List Float) (n : List ℕ) (p : List Float) (c s x z b spots : List ℕ) where
   abbrev f : ℕ
@@ -44,23 +41,20 @@ module _ (y : Listing) (d : List Float) (n : List ℕ) (p : List Float) (c s x z
   print-fits w P e = omega (arith, P .fits, ap (λ l. length (row (bodyBytes d l (take (3 * y .layout .points) p) (take (y .layout .vertices) c) (take (y .layout .facets + 1) s)) (bodiesAt (take (y .fused .facets) x) z 0 0 (countsAt b 0 (y .fused .bodies))))) e)
 
   module _ (out₀ out : List ℕ) where
-    pub print-refused : (e : Refusal) → y .fused .verdict ≡ Refused e → Answered (printAt y d n p c s x z b spots) out₀ out₀ (record { verdict = y .fused .verdict; bytes = 0 })
-    unfolding printAt heard endedOf
+    pub print-refused : (e : Refusal) → y .fused .verdict ≡ Refused e →
+        (record { verdict = y .fused .verdict; bytes = 0 } ≡ endedOf (printAt y d n p c s x z b spots)) × (out₀ ≡ written (printAt y d n p c s x z b spots) out₀)
+    unfolding printAt heard endedOf written
     print-refused e v =
         let o : printAt y d n p c s x z b spots ≡ refused e = ap (λ u. then (heard {A = Unit {0}} u tt) (λ _. ok (printed y d n p c s x z b spots))) v in
-        record { is = ap {B = Ended} (λ u. record { verdict = u; bytes = 0 }) v ∙ ap endedOf (sym o); bytes = λ l g. never-ok (sym o ∙ g); same = λ r g. refl }
+        (ap {B = Ended} (λ u. record { verdict = u; bytes = 0 }) v ∙ ap endedOf (sym o), ap (λ q. written q out₀) (sym o))
 
     pub print-made : (w : List ℕ) (m : ℕ) → y .fused .verdict ≡ Fine → w ≡ sets spots 0 (spotsFrom 0 (countsAt n 0 (y .layout .facets))) →
         m ≡ 0 + length (row (bodyBytes d w (take (3 * y .layout .points) p) (take (y .layout .vertices) c) (take (y .layout .facets + 1) s)) (bodiesAt (take (y .fused .facets) x) z 0 0 (countsAt b 0 (y .fused .bodies)))) →
         out ≡ sets out₀ 0 (row (bodyBytes d w (take (3 * y .layout .points) p) (take (y .layout .vertices) c) (take (y .layout .facets + 1) s)) (bodiesAt (take (y .fused .facets) x) z 0 0 (countsAt b 0 (y .fused .bodies)))) →
-        Answered (printAt y d n p c s x z b spots) out₀ out (record { verdict = Fine; bytes = m })
-    unfolding printAt heard endedOf printed spotsAt
+        (record { verdict = Fine; bytes = m } ≡ endedOf (printAt y d n p c s x z b spots)) × (out ≡ written (printAt y d n p c s x z b spots) out₀)
+    unfolding printAt heard endedOf written printed spotsAt
     print-made w m v e g h =
         let t : List ℕ → List ℕ = λ l. row (bodyBytes d l (take (3 * y .layout .points) p) (take (y .layout .vertices) c) (take (y .layout .facets + 1) s)) (bodiesAt (take (y .fused .facets) x) z 0 0 (countsAt b 0 (y .fused .bodies))) in
         let o : printAt y d n p c s x z b spots ≡ ok (printed y d n p c s x z b spots) = ap (λ u. then (heard {A = Unit {0}} u tt) (λ _. ok (printed y d n p c s x z b spots))) v in
         let q : m ≡ length (printed y d n p c s x z b spots) = omega (arith, g, ap (λ l. length (t l)) e) in
-        record {
-          is = ap {B = Ended} (λ i. record { verdict = Fine; bytes = i }) q ∙ ap endedOf (sym o);
-          bytes = λ l k. h ∙ ap (λ i. sets out₀ 0 (t i)) e ∙ ap (sets out₀ 0) (same-ok (sym o ∙ k));
-          same = λ r k. never-refused (sym o ∙ k);
-        }
+        (ap {B = Ended} (λ i. record { verdict = Fine; bytes = i }) q ∙ ap endedOf (sym o), h ∙ ap (λ i. sets out₀ 0 (t i)) e ∙ ap (λ i. written i out₀) (sym o))

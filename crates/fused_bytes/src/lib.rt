@@ -1,4 +1,5 @@
 // The bytes of the bodies of a list of cells, out of the slices that `fuse_list` leaves.
+use ended::Ended;
 use fuse_list::Listing;
 use refusal::Verdict;
 use space::Precision;
@@ -10,15 +11,10 @@ ghost use lib.ListN.{length};
 ghost use Rattle.refusal.specs.Outcome.{then};
 ghost use Rattle.stack.specs.Stacks.{listAt, Holds};
 ghost use Rattle.arrangement.specs.Arrangements.{Lent};
+ghost use Rattle.ended.specs.Ends.{endedOf, written};
 ghost use Rattle.fused.specs.Bodies.{fuseCells};
 ghost use Rattle.fuse_list.specs.Lists.{Tools};
-ghost use Rattle.fused_bytes.specs.Bytes.{answerOf, printAt, Printable, Answered};
-
-// A verdict, and how many bytes are written.
-pub struct Ended {
-    pub verdict: Verdict,
-    pub bytes: usize,
-}
+ghost use Rattle.fused_bytes.specs.Bytes.{answerOf, printAt, Printable};
 
 // The bodies, one behind another; a refusal stays, and leaves the answer as it is. The faces of the cells stand in `d` and `counts`.
 pub fn put_listing(
@@ -35,7 +31,8 @@ pub fn put_listing(
     out: &mut [u8],
 ) -> Ended
     requires { ⌜ (y .fused .verdict ≡ Fine → Printable y (now d) (now counts) (now points) (now cycles) (now starts) (now facets) (now sizes) (now shells) (now spots) (now out)) ⌝ }
-    ensures { λ r. ⌜ Answered (printAt y (now (d .entry)) (now (counts .entry)) (now (points .entry)) (now (cycles .entry)) (now (starts .entry)) (now (facets .entry)) (now (sizes .entry)) (now (shells .entry)) (now (spots .entry))) (now (out .entry)) (now (out .exit)) r ⌝ }
+    ensures { λ r. ⌜ r ≡ endedOf (printAt y (now (d .entry)) (now (counts .entry)) (now (points .entry)) (now (cycles .entry)) (now (starts .entry)) (now (facets .entry)) (now (sizes .entry)) (now (shells .entry)) (now (spots .entry))) ⌝ }
+    ensures { λ _. ⌜ now (out .exit) ≡ written (printAt y (now (d .entry)) (now (counts .entry)) (now (points .entry)) (now (cycles .entry)) (now (starts .entry)) (now (facets .entry)) (now (sizes .entry)) (now (shells .entry)) (now (spots .entry))) (now (out .entry)) ⌝ }
 {
     let a = y.layout;
     let b = y.fused;
@@ -70,14 +67,14 @@ pub fn put_listing(
 }
 
 // The bytes of a list's bodies: its cells are arranged, fused and written; the first refusal stays. Everything that is lent but for
-// the list and the answer is work memory.
+// the answer is work memory, the sizes of the list's cells too.
 pub fn fused_bytes(
     t: Precision,
     limit: usize,
     list: Stack,
     d: &[f64],
     counts: &[u64],
-    sizes: &[u64],
+    sizes: &mut [u64],
     points: &mut [f64],
     corners: &mut [u64],
     lows: &mut [f64],
@@ -100,8 +97,9 @@ pub fn fused_bytes(
     shells: &mut [u64],
     answer: &mut [u8],
 ) -> Ended
-    requires { ⌜ Holds limit list (now d) (now counts) (now sizes) × Lent limit (now points) (now corners) (now lows) (now highs) (now places) (now cycles) (now lengths) (now starts) (now owners) × Tools limit (now corners) (now cells) (now cuts) (now lengths) (now runs) (now k) (now s) (now ord) (now ends) (now places) (now marks) (now out) (now many) (now shells) × (64 * limit ≤ length (now answer)) ⌝ }
-    ensures { λ r. ⌜ Answered (answerOf (then (listAt list (now (d .entry)) (now (counts .entry)) (now (sizes .entry))) (fuseCells t limit))) (now (answer .entry)) (now (answer .exit)) r ⌝ }
+    requires { ⌜ Holds limit list (now d) (now counts) (now sizes) × Lent limit (now points) (now corners) (now lows) (now highs) (now places) (now cycles) (now lengths) (now starts) (now owners) × Tools limit (now corners) (now cells) (now cuts) (now lengths) (now runs) (now k) (now s) (now ord) (now ends) (now sizes) (now marks) (now out) (now many) (now shells) × (64 * limit ≤ length (now answer)) ⌝ }
+    ensures { λ r. ⌜ (r ≡ endedOf (answerOf (then (listAt list (now (d .entry)) (now (counts .entry)) (now (sizes .entry))) (fuseCells t limit)))) × (r .bytes ≤ 64 * limit) ⌝ }
+    ensures { λ _. ⌜ now (answer .exit) ≡ written (answerOf (then (listAt list (now (d .entry)) (now (counts .entry)) (now (sizes .entry))) (fuseCells t limit))) (now (answer .entry)) ⌝ }
 {
     let y = fuse_list::fuse_list(
         t,

@@ -14,6 +14,7 @@ use Rattle.refusal.specs.Laws.{stop, go}
 use Rattle.space.specs.Vector.{fairPrecision}
 use Rattle.space.specs.Shapes.{Cell}
 use Rattle.polygon.specs.Members.{same-ok, never-ok, then-ok}
+use Rattle.room.specs.Rooms.{cellAt, countsAt}
 use Rattle.room.specs.Steps.{unless-ok}
 use Rattle.job.specs.declared.Layout.{Layout}
 use Rattle.job.specs.declared.Laid.{Laid}
@@ -181,3 +182,29 @@ module _ (l : List ℕ) (y : Layout) (a : List Float) (held : List ℕ) (b : Lis
       by : (v : Verdict) → s .verdict ≡ v → TookBoth (bothOf l y) r a held b counts
       by D.Fine h = both-fine f s r T e U g h
       by (D.Refused q) h = both-refused f s r q T e U g h
+
+-- ---- what comes behind the two solids
+
+pair-fine : (o : Outcome Both) (r : Pair) → r ≡ pairOf o → r .verdict ≡ D.Fine → (p : Both) × (o ≡ ok p)
+unfolding pairOf
+pair-fine (ok p) r e v = (p, refl)
+pair-fine (refused q) r e v = never-fine (sym v ∙ ap (λ x. x .verdict) e)
+
+pair-not : (o : Outcome Both) (r : Pair) (q : Refusal) → r ≡ pairOf o → r .verdict ≡ D.Refused q → o ≡ refused q
+unfolding pairOf
+pair-not (ok p) r q e v = never-fine (sym (ap (λ x. x .verdict) e) ∙ v)
+pair-not (refused p) r q e v = ap refused (same-refused (sym (ap (λ x. x .verdict) e) ∙ v))
+
+module _ (l : List ℕ) (y : Layout) (r : Pair) (a : List Float) (held : List ℕ) (b : List Float) (counts : List ℕ) (T : TookBoth (bothOf l y) r a held b counts) where
+  -- a refusal stays
+  pub pair-stop : {A : Type 0} (f : Both → Outcome A) (q : Refusal) → r .verdict ≡ D.Refused q → then (bothOf l y) f ≡ refused q
+  pair-stop f q v = stop (bothOf l y) f q (pair-not (bothOf l y) r q (T .is) v)
+
+  -- both cells stand in their rooms
+  pub pair-cells : r .verdict ≡ D.Fine → (p : Both) × (bothOf l y ≡ ok p) × Stands (p .first) (r .first) a held × Stands (p .second) (r .second) b counts
+  pair-cells v = let p = pair-fine (bothOf l y) r (T .is) v in (p .0, p .1, T .first (p .0) (p .1), T .second (p .0) (p .1))
+
+  -- and the next step takes them from there
+  pub pair-go : {A : Type 0} (f : Cell → Cell → Outcome A) → r .verdict ≡ D.Fine →
+      f (cellAt a 0 (countsAt held 0 (r .first))) (cellAt b 0 (countsAt counts 0 (r .second))) ≡ then (bothOf l y) (λ p. f (p .first) (p .second))
+  pair-go f v = let p = pair-cells v in ap₂ f (p .2 .is) (p .3 .is) ∙ sym (go (bothOf l y) (λ p. f (p .first) (p .second)) (p .0) (p .1))

@@ -4,6 +4,7 @@
 mod bits;
 mod calls;
 mod cutting;
+mod fusing;
 mod mesh;
 mod numbers;
 mod report;
@@ -42,12 +43,13 @@ impl Scale {
 type Layer = fn(&mut Report, u64, Scale);
 
 /// Each layer's name, what it asks, and what is added to the seed.
-const LAYERS: [(&str, Layer, u64); 9] = [
+const LAYERS: [(&str, Layer, u64); 10] = [
     ("numbers", numbers::compare, 0),
     ("vectors", vectors::compare, 100),
     ("cutting", cutting::compare, 200),
     ("mesh", mesh::compare, 300),
     ("solids", solids::compare, 400),
+    ("fusing", fusing::compare, 450),
     ("cells", calls::cells, 500),
     ("offset", calls::offset, 600),
     ("hollow", calls::hollow, 700),

@@ -22,10 +22,11 @@ pub fn corners(cells: &[Cell]) -> usize {
     cells.iter().flatten().map(|f| f.points.len()).sum()
 }
 
-pub const FAMILIES: [Family<List>; 6] = [
+pub const FAMILIES: [Family<List>; 7] = [
     family("spoilt cells", spoilt, 1),
     family("points in rows", rows, 1),
     family("points on edges", edges, 1),
+    family("points beside an edge", sides, 1),
     family("facets of few points", facets, 1),
     family("shells", shells, 1),
     family("pieces of a job", pieces, 20),
@@ -81,6 +82,20 @@ fn edges(random: &mut Random) -> List {
     let mut faces = vec![polygon.iter().map(|&i| points[i]).collect()];
     let others = points.iter().skip(3).enumerate();
     faces.extend(others.map(|(i, &q)| fin(q, i)));
+    list(random, t, vec![cell(&faces)])
+}
+
+/// Points about as far along an edge, apart from each other on its two sides.
+fn sides(random: &mut Random) -> List {
+    let t = tolerances(random);
+    let mut faces = vec![vec![O, X, Y]];
+    for i in 0..random.between(1, 4) {
+        let along = random.pick(&[0.25, 0.5, 0.5, 0.75]);
+        let along = leaves::stepped(random, along, 3);
+        let off = random.pick(&[-0.9, -0.6, -0.6, 0.6, 0.6, 0.9]) * t.local;
+        let point = [along, leaves::stepped(random, off, 3), 0.0];
+        faces.push(fin(point, i));
+    }
     list(random, t, vec![cell(&faces)])
 }
 
@@ -185,11 +200,11 @@ const Y: Point = [0.0, 1.0, 0.0];
 const Z: Point = [0.0, 0.0, 1.0];
 const XY: Point = [1.0, 1.0, 0.0];
 
-/// As many points, one corner each, in faces of 64.
+/// As many points, one corner each, in faces of 51, so that none is left with fewer than three.
 fn points(n: usize) -> Corners {
     let corner = |i: usize| [i as f64, 0.0, 0.0];
     let all: Vec<Point> = (0..n).map(corner).collect();
-    all.chunks(64).map(<[Point]>::to_vec).collect()
+    all.chunks(51).map(<[Point]>::to_vec).collect()
 }
 
 /// No cells at all, and as many points as may be, or one more.

@@ -1,0 +1,2 @@
+pub mod Fusing
+pub mod Laws
