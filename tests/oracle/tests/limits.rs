@@ -3,7 +3,7 @@ mod common;
 
 use common::*;
 use gen::limits;
-use oracle::{Job, Lent};
+use oracle::{leaf, Job, Lent};
 
 fn fused(job: &Job) -> Result<Vec<usize>, u32> {
     let bodies = oracle::fuse_bodies(&job.bytes(), Lent::UNBOUNDED)?;
@@ -52,4 +52,16 @@ fn a_fused_facet_may_stand_off_its_plane() {
 #[test]
 fn faces_nearly_in_one_plane_are_refused() {
     assert_eq!(fused(&limits::nearly_flush()), Err(20));
+}
+
+#[test]
+fn a_body_may_have_no_outside() {
+    let out = checked(&gen::solid::tetrahedron(1.0));
+    let turned = |f: &oracle::Face| oracle::Face {
+        plane: leaf::opposite(&T, &f.plane).expect("a plane"),
+        points: f.points.iter().rev().copied().collect(),
+    };
+    let inside_out = out.iter().map(turned).collect();
+    let bodies = leaf::fuse_cells(&T, None, &[out, inside_out]);
+    assert_eq!(bodies.err(), Some(23));
 }
