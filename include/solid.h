@@ -19,8 +19,9 @@
  *   facet  1, 9 plane (12 f64: origin, x, y, z), 2 for each corner
  *
  * What is answered, little-endian, without a leading count: it ends where the bytes end.
- *   hollow         for its body u32 shells; for each shell u8 (1 outward, 0 inward), u32 facets; for each facet 12 f64 plane
- *                  (origin, x, y, z), u32 corners, 3 f64 a corner
+ *   fuse, hollow   for each body u32 shells; for each shell u8 (1 outward, 0 inward), u32 facets; for each facet 12 f64 plane
+ *                  (origin, x, y, z), u32 corners, 3 f64 a corner. Corners run counter-clockwise, seen from outside the
+ *                  material; the outward shell comes first. A hollow is one body; a fused answer may have no bodies
  *   cells, offset  for each cell u32 points, 3 f64 a point, u32 faces; for each face u32 corners, u32 a corner (its point)
  *   mesh           for each triangle three u32, the places of its corners
  */
@@ -36,6 +37,10 @@ extern "C" {
 
 /* The work slices of each call in their order. F(name, each, more) is a slice of double, U(name, each, more) one of
  * uint64_t; for a room of n corners it has each * n + more numbers, or more. */
+#define SOLID_FUSE_WORK(F, U)                                                                                               \
+    F(rest, 3, 1920) F(spare, 10, 1536) F(dst, 10, 1536) U(held, 1, 128) U(slots, 1, 128) U(counts, 1, 128) U(sizes, 1, 1)    \
+    U(seats, 1, 1) U(lengths, 1, 0) U(owners, 1, 0) U(cells, 1, 0) U(cuts, 1, 1) U(runs, 3, 0) U(keys, 2, 0) U(begins, 1, 1)  \
+    U(ord, 1, 0) U(ends, 1, 0) U(marks, 1, 1) U(out, 1, 0) U(many, 1, 0) U(shells, 1, 0)
 #define SOLID_CELLS_WORK(F, U)                                                                                              \
     F(rest, 3, 1920) F(spare, 3, 1536) F(dst, 10, 1536) U(held, 1, 128) U(slots, 1, 128) U(counts, 1, 128) U(sizes, 1, 1)     \
     U(order, 2, 1024) U(chain, 2, 2048) U(head, 1, 0) U(seen, 1, 0) U(work, 1, 0) U(nodes, 1, 0) U(cuts, 1, 1)
@@ -44,6 +49,10 @@ extern "C" {
 
 #define SOLID_F64_SLICE(name, each, more) double *name, size_t name##_n,
 #define SOLID_U64_SLICE(name, each, more) uint64_t *name, size_t name##_n,
+
+/* The operation of a job as fused bodies: cells that share a facet belong to one body, and no shared facet is listed. */
+uint64_t solid_fuse(const uint8_t *job, size_t job_n, uint64_t corners,
+                    SOLID_FUSE_WORK(SOLID_F64_SLICE, SOLID_U64_SLICE) uint8_t *answer, size_t answer_n);
 
 /* The operation of a job as convex cells with disjoint interiors. */
 uint64_t solid_cells(const uint8_t *job, size_t job_n, uint64_t corners,
@@ -71,6 +80,7 @@ uint64_t solid_mesh(const uint8_t *facet, size_t facet_n, uint8_t *answer, size_
 static inline uint64_t solid_room_words(uint64_t corners)
 {
     const uint64_t words[] = {
+        0 SOLID_FUSE_WORK(SOLID_WORDS, SOLID_WORDS),
         0 SOLID_CELLS_WORK(SOLID_WORDS, SOLID_WORDS),
         0 SOLID_OFFSET_WORK(SOLID_WORDS, SOLID_WORDS),
         0 SOLID_HOLLOW_WORK(SOLID_WORDS, SOLID_WORDS),
@@ -93,6 +103,14 @@ static inline uint64_t solid_room_words(uint64_t corners)
 #define SOLID_LEND(name, each, more) name, name##_n,
 
 /* The calls with their work slices out of a block of solid_room_words(corners) words. */
+
+static inline uint64_t solid_fuse_in(void *room, const uint8_t *job, size_t job_n, uint64_t corners, uint8_t *answer,
+                                     size_t answer_n)
+{
+    unsigned char *at = (unsigned char *)room;
+    SOLID_FUSE_WORK(SOLID_F64_CARVE, SOLID_U64_CARVE)
+    return solid_fuse(job, job_n, corners, SOLID_FUSE_WORK(SOLID_LEND, SOLID_LEND) answer, answer_n);
+}
 
 static inline uint64_t solid_cells_in(void *room, const uint8_t *job, size_t job_n, uint64_t corners, uint8_t *answer,
                                       size_t answer_n)

@@ -53,6 +53,12 @@ private:
 // Each returns number + 256 * bytes: number is document 01's (0: an answer), bytes how many bytes of `answer` were written
 // (0 for a refusal).
 
+// The operation of a job as fused bodies: cells that share a facet belong to one body, and no shared facet is listed.
+inline std::uint64_t fuse(std::span<const std::uint8_t> job, Room &room, std::span<std::uint8_t> answer)
+{
+    return solid_fuse_in(room.memory(), job.data(), job.size(), room.corners(), answer.data(), answer.size());
+}
+
 // The operation of a job as convex cells with disjoint interiors.
 inline std::uint64_t cells(std::span<const std::uint8_t> job, Room &room, std::span<std::uint8_t> answer)
 {
@@ -129,7 +135,7 @@ private:
     std::span<const std::uint8_t> left_;
 };
 
-// Walks an answer of `hollow`. The visitor has body(shells), shell(outward, facets), facet(plane, corners) and
+// Walks an answer of `fuse` or `hollow`. The visitor has body(shells), shell(outward, facets), facet(plane, corners) and
 // corner(point), called as they stand in the answer.
 template <class Visitor>
 void walk_bodies(std::span<const std::uint8_t> answer, Visitor &&visitor)
@@ -195,7 +201,7 @@ struct Cell {
 
 using Triangle = std::array<std::uint32_t, 3>;
 
-// An answer of `hollow` as plain vectors.
+// An answer of `fuse` or `hollow` as plain vectors.
 inline std::vector<Body> bodies_of(std::span<const std::uint8_t> answer)
 {
     struct Into {

@@ -7,6 +7,8 @@ pub mod facets;
 pub mod family;
 pub mod jobs;
 pub mod leaves;
+pub mod limits;
+pub mod lists;
 pub mod pairs;
 pub mod random;
 pub mod replay;

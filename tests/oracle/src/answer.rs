@@ -53,6 +53,57 @@ pub fn bodies_bytes(bodies: &[Body]) -> Vec<u8> {
     out
 }
 
+/// The first `n` bytes, and what is left.
+fn front<'a>(bytes: &mut &'a [u8], n: usize) -> Option<&'a [u8]> {
+    let (first, rest) = bytes.split_at_checked(n)?;
+    *bytes = rest;
+    Some(first)
+}
+
+fn take_count(bytes: &mut &[u8]) -> Option<usize> {
+    let count = front(bytes, 4)?.try_into().ok()?;
+    Some(u32::from_le_bytes(count) as usize)
+}
+
+fn take_numbers<const N: usize>(bytes: &mut &[u8]) -> Option<[f64; N]> {
+    let mut out = [0.0; N];
+    for x in &mut out {
+        *x = f64::from_le_bytes(front(bytes, 8)?.try_into().ok()?);
+    }
+    Some(out)
+}
+
+fn take_facet(bytes: &mut &[u8]) -> Option<Facet> {
+    let plane = take_numbers(bytes)?;
+    let corners = take_count(bytes)?;
+    let points = (0..corners)
+        .map(|_| take_numbers(bytes))
+        .collect::<Option<_>>()?;
+    Some(Facet { plane, points })
+}
+
+fn take_shell(bytes: &mut &[u8]) -> Option<Shell> {
+    let outward = front(bytes, 1)? == [1];
+    let facets = take_count(bytes)?;
+    let facets = (0..facets)
+        .map(|_| take_facet(bytes))
+        .collect::<Option<_>>()?;
+    Some(Shell { outward, facets })
+}
+
+/// The bodies whose bytes these are; none where they end too early.
+pub fn read_bodies(mut bytes: &[u8]) -> Option<Vec<Body>> {
+    let mut out = Vec::new();
+    while !bytes.is_empty() {
+        let shells = take_count(&mut bytes)?;
+        let shells = (0..shells)
+            .map(|_| take_shell(&mut bytes))
+            .collect::<Option<_>>()?;
+        out.push(Body { shells });
+    }
+    Some(out)
+}
+
 /// Cells, their points, their faces by the places of their corners.
 pub fn cells_bytes(cells: &[Solid]) -> Vec<u8> {
     let mut out = Vec::new();

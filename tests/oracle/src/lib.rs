@@ -14,7 +14,9 @@ mod room;
 #[allow(dead_code)] // docs/src also names what no call reads
 mod shim;
 
-pub use answer::{bodies_bytes, cells_bytes, text, triangles_bytes, Body, Facet, Shell};
+pub use answer::{
+    bodies_bytes, cells_bytes, read_bodies, text, triangles_bytes, Body, Facet, Shell,
+};
 pub use calls::{
     cells, cells_solids, fuse, fuse_bodies, hollow, hollow_bodies, mesh, mesh_triangles, offset,
     offset_solid, solidjob, Call, Lent, CORNER_BYTES, SOLIDJOB_ROOM,

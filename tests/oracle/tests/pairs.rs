@@ -172,6 +172,17 @@ const PRINTED: [(&str, &str); 7] = [
 ];
 
 #[test]
+fn bodies_are_read_again() {
+    for (name, job) in gen::pairs::files() {
+        let bytes = oracle::fuse(&job.bytes(), Lent::UNBOUNDED).expect("an answer");
+        let bodies = oracle::read_bodies(&bytes).expect("bodies");
+        assert_eq!(oracle::bodies_bytes(&bodies), bytes, "{name}");
+        let short = bytes.split_last().map(|(_, short)| short);
+        assert!(short.is_none_or(|short| oracle::read_bodies(short).is_none()));
+    }
+}
+
+#[test]
 fn the_files_of_jobs() {
     let directory = std::path::Path::new(env!("CARGO_MANIFEST_DIR")).join("../../jobs");
     for ((name, job), (same, shells)) in gen::pairs::files().into_iter().zip(PRINTED) {

@@ -264,6 +264,15 @@ fn twenty_to_twenty_three_for_boundaries() {
     assert_eq!(fuse_loose(&[inward]), 23);
 }
 
+/// The lists that the port is asked too.
+#[test]
+fn each_refusal_of_a_list() {
+    for (number, list) in gen::lists::refused() {
+        let told = leaf::fuse_cells(&list.tolerances, Some(list.room), &list.cells);
+        assert_eq!(refused(told), number);
+    }
+}
+
 #[test]
 fn twenty_four_to_twenty_seven_for_offsets() {
     let mut random = Random::new(24);
