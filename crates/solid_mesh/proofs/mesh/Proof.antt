@@ -2,8 +2,8 @@ use mathlib.Core.Path.{refl}
 use Rattle.solid_mesh.specs.Laws.{not-read, small, many-corners, not-small, roomy}
 use native.Mathlib.Omega.{arith}
 use borrow.Author.Needs.{needs}
-use Rattle.solid_mesh.proofs.solid_mesh.Statement.{statement}
-use Rattle.solid_mesh.proofs.solid_mesh.Tie as tie
+use Rattle.solid_mesh.proofs.mesh.Statement.{statement}
+use Rattle.solid_mesh.proofs.mesh.Tie as tie
 
 read-facet-requires : tie.Need-read-facet-requires
 read-facet-requires c κs = search needs
@@ -35,8 +35,8 @@ same-length c = search needs
 returns-4 : tie.Need-returns-4
 returns-4 c = roomy _ _ _ (c .before .before .before .before .before .before .before .before .before .before .before .read-facet .ensures) _ (c .before .before .before .before .before .before .before .before .before .laid2 .given .1) _ _ _ _ (c .before .before .before .before .before .before .before .is-small .ensures) (c .before .before .before .before .before .before .if1 .left) (c .before .before .draw .ensures)
 
-pub solid-mesh-spec : {M : Type 1} → statement M
-solid-mesh-spec =
+pub mesh-spec : {M : Type 1} → statement M
+mesh-spec =
     tie.close
     (tie.spec
     read-facet-requires

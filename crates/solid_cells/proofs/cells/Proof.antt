@@ -2,8 +2,8 @@ use mathlib.Core.Path.{_∙_}
 use Rattle.clear.specs.Clear.{zeros-same, floats-same}
 use Rattle.solid_cells.specs.Laws.{entry-ends}
 use borrow.Author.Needs.{needs}
-use Rattle.solid_cells.proofs.solid_cells.Statement.{statement}
-use Rattle.solid_cells.proofs.solid_cells.Tie as tie
+use Rattle.solid_cells.proofs.cells.Statement.{statement}
+use Rattle.solid_cells.proofs.cells.Tie as tie
 
 is-lent-requires : tie.Need-is-lent-requires
 is-lent-requires c κs = search needs
@@ -101,8 +101,8 @@ returns c =
       ),
     )
 
-pub solid-cells-spec : {M : Type 1} → statement M
-solid-cells-spec =
+pub cells-spec : {M : Type 1} → statement M
+cells-spec =
     tie.close
     (tie.spec
     is-lent-requires
