@@ -106,8 +106,7 @@ fn served(
 
 // The cells of the Boolean operation of the job that the bytes hold: the number of the refusal, or 256 times the bytes of the answer, which
 // stands at the front of `answer`. `corners` is the room; all slices but the answer are work memory, and zero after the call.
-#[no_mangle]
-pub extern "C" fn solid_cells(
+pub fn cells(
     job: &[u8],
     corners: u64,
     rest: &mut [f64],

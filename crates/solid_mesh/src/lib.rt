@@ -74,8 +74,7 @@ fn is_small(size: usize, n: usize) -> bool
 }
 
 // A facet's bytes (tolerances, plane, corners) to triples of corner places. Returns 01's number and, times 256, the bytes written.
-#[no_mangle]
-pub extern "C" fn solid_mesh(facet: &[u8], answer: &mut [u8]) -> u64
+pub fn mesh(facet: &[u8], answer: &mut [u8]) -> u64
     ensures { λ r. ⌜ Drawn (meshCall (length (now (answer .entry))) (now (facet .entry))) r (now (answer .entry)) (now (answer .exit)) ⌝ }
 {
     let laid = job::read_facet(facet);

@@ -2,14 +2,11 @@
 use mathlib.Core.Path.{_≡_}
 use mathlib.Core.Bool.{Bool, true, not, _&&_}
 use mathlib.Core.List.{List}
-use Prim.Native.Nat.{ℕ, _+_, _*_, _/_, _≤_}
+use Prim.Native.Nat.{ℕ, _/_, _≤_}
 use lib.ListN.{length, replicate}
-use lib.Seq.{sets}
 use lib.Dec.{leb}
 use lib.Ieee.{Float, binary64, ofBits}
-use Rattle.refusal.specs.declared.Verdict.{Verdict}
-use Rattle.refusal.specs.declared.Verdict.the-variants.{Fine, Refused}
-use Rattle.refusal.specs.Outcome.{Outcome, ok, refused, then, unless}
+use Rattle.refusal.specs.Outcome.{Outcome, then, unless}
 use Rattle.space.specs.Shapes.{Cell, corners}
 use Rattle.room.specs.Rooms.{cellAt, countsAt}
 use Rattle.job.specs.declared.CellLayout.{CellLayout}
@@ -18,7 +15,6 @@ use Rattle.bounds.specs.Bounds.{Lies}
 use Rattle.hollow.specs.Hollows.{thick}
 use Rattle.solid_check.specs.Check.{check}
 use Rattle.jobs.specs.Jobs.{openCell}
-use Rattle.ended.specs.declared.Ended.{Ended}
 use Rattle.offset_answer.specs.Calls.{offsetCall}
 use Rattle.hollow_answer.specs.Calls.{hollowCall}
 
@@ -40,15 +36,6 @@ hollowLaid l room w y = unless (not (thick (y .precision) w)) 28 (then (check tr
 
 unfoldable pub hollowEntry : Bool → ℕ → Float → List ℕ → Outcome (List ℕ)
 hollowEntry lends room w l = then (openCell lends l) (hollowLaid l room w)
-
--- what is handed back: the number, and 256 times how many bytes the answer has
-unfoldable pub toldBy : Verdict → ℕ → ℕ
-toldBy Fine n = 256 * n
-toldBy (Refused r) n = r .number
-
-unfoldable pub Told : Outcome (List ℕ) → List ℕ → List ℕ → ℕ → Type 0
-Told (ok l) a₀ a r = (r ≡ 256 * length l) × (a ≡ sets a₀ 0 l)
-Told (refused x) a₀ a r = (r ≡ x .number) × (a ≡ a₀)
 
 -- the rooms are zero after every call
 pub record Cleared (s : List Float) (counts : List ℕ) (dst : List Float) (sizes : List ℕ) (s′ : List Float) (counts′ : List ℕ) (dst′ : List Float) (sizes′ : List ℕ) : Type 0 where

@@ -34,12 +34,12 @@ use Rattle.intake.specs.Layouts.{Stood}
 use Rattle.jobs.specs.Jobs.{openCell}
 use Rattle.jobs.specs.Laws.{cell-opened}
 use Rattle.ended.specs.declared.Ended.{Ended}
-use Rattle.ended.specs.Ends.{fitted, stopped, Handed}
+use Rattle.ended.specs.Ends.{fitted, stopped, Handed, written, toldBy, toldOf}
 use Rattle.ended.specs.Laws.{handed-not}
 use Rattle.offset_answer.specs.Calls.{offsetCall, Shop}
 use Rattle.hollow_answer.specs.Calls.{hollowCall, Yard}
 use Rattle.hollow_answer.specs.Laws.{within-ends}
-use Rattle.solid_offset.specs.Entries.{lent, offsetLaid, offsetEntry, hollowLaid, hollowEntry, toldBy, Told, Given, Rooms, Ample}
+use Rattle.solid_offset.specs.Entries.{lent, offsetLaid, offsetEntry, hollowLaid, hollowEntry, Given, Rooms, Ample}
 use Rattle.solid_offset.specs.Short.{Brief, handed-brief, offset-short, hollow-short}
 
 -- ---- a checked cell and the call's own work memory
@@ -205,11 +205,12 @@ module _ (lends : Bool) (l : List ℕ) (c : CellLaid) (o : cellLaid c ≡ openCe
 
 -- ---- what is handed back
 
-pub told-is : (o : Outcome (List ℕ)) (a₀ a : List ℕ) (e : Ended) (r : ℕ) → Brief o a₀ a e → r ≡ toldBy (e .verdict) (e .bytes) → Told o a₀ a r
-unfolding Handed Told toldBy
+told-is : (o : Outcome (List ℕ)) (a₀ a : List ℕ) (e : Ended) (r : ℕ) → Brief o a₀ a e → r ≡ toldBy (e .verdict) (e .bytes) → (r ≡ toldOf o) × (a ≡ written o a₀)
+unfolding Handed toldBy toldOf written
 told-is (ok l) a₀ a e r b h = (h ∙ ap (λ z. toldBy (z .verdict) (z .bytes)) (b .handed .0), b .handed .1)
 told-is (refused x) a₀ a e r b h = (h ∙ ap (λ z. toldBy (z .verdict) (z .bytes)) (b .handed .0), b .handed .1)
 
 -- the same, where what is lent was worked out before
-pub told-with : (f : Bool → Outcome (List ℕ)) (a₀ a : List ℕ) (e : Ended) (r : ℕ) {b c : Bool} → Brief (fitted (length a₀) (f b)) a₀ a e → r ≡ toldBy (e .verdict) (e .bytes) → b ≡ c → Told (fitted (length a₀) (f c)) a₀ a r
-told-with f a₀ a e r {b} {c} h g k = subst (λ z. Told (fitted (length a₀) (f z)) a₀ a r) k (told-is (fitted (length a₀) (f b)) a₀ a e r h g)
+pub told-with : (f : Bool → Outcome (List ℕ)) (a₀ a : List ℕ) (e : Ended) (r : ℕ) {b c : Bool} → Brief (fitted (length a₀) (f b)) a₀ a e → r ≡ toldBy (e .verdict) (e .bytes) → b ≡ c →
+    (r ≡ toldOf (fitted (length a₀) (f c))) × (a ≡ written (fitted (length a₀) (f c)) a₀)
+told-with f a₀ a e r {b} {c} h g k = subst (λ z. (r ≡ toldOf (fitted (length a₀) (f z))) × (a ≡ written (fitted (length a₀) (f z)) a₀)) k (told-is (fitted (length a₀) (f b)) a₀ a e r h g)

@@ -11,8 +11,8 @@ ghost use Rattle.room.specs.Rooms.{cellAt, countsAt};
 ghost use Rattle.intake.specs.Layouts.{Stood};
 ghost use Rattle.offset_answer.specs.Calls.{offsetCall};
 ghost use Rattle.hollow_answer.specs.Calls.{hollowCall};
-ghost use Rattle.ended.specs.Ends.{fitted};
-ghost use Rattle.solid_offset.specs.Entries.{lent, offsetLaid, offsetEntry, hollowLaid, hollowEntry, toldBy, Told, Cleared, Given, Rooms, Ample};
+ghost use Rattle.ended.specs.Ends.{fitted, toldOf, written};
+ghost use Rattle.solid_offset.specs.Entries.{lent, offsetLaid, offsetEntry, hollowLaid, hollowEntry, Cleared, Given, Rooms, Ample};
 ghost use Rattle.solid_offset.specs.Short.{Brief};
 
 // The offset of a checked cell of n faces; its small work memory is the call's own.
@@ -178,16 +178,6 @@ fn is_lent(room: usize, answer: usize, s: usize, counts: usize, dst: usize, size
     (room <= answer / 64) & (((3840 <= s) & (128 <= counts)) & ((1920 <= dst) & (64 <= sizes)))
 }
 
-fn told_by(v: Verdict, n: usize) -> u64
-    requires { ⌜ n ≤ 65536 ⌝ }
-    ensures { λ r. ⌜ r ≡ toldBy v n ⌝ }
-{
-    match v {
-        Verdict::Fine => 256 * (n as u64),
-        Verdict::Refused(r) => r.number,
-    }
-}
-
 fn offset_served(
     cell: &[u8],
     limit: usize,
@@ -232,8 +222,7 @@ fn hollow_served(
 
 // The offset of the cell that the bytes hold: the number of the refusal, or 256 times the bytes of the answer, which stands at the front of
 // `answer`. `corners` is the room; the two rooms lent are zero after the call.
-#[no_mangle]
-pub extern "C" fn solid_offset(
+pub fn offset(
     cell: &[u8],
     distance: f64,
     corners: u64,
@@ -243,7 +232,8 @@ pub extern "C" fn solid_offset(
     sizes: &mut [u64],
     answer: &mut [u8],
 ) -> u64
-    ensures { λ r. ⌜ Told (fitted (length (now (answer .entry))) (offsetEntry (lent corners (length (now (answer .entry))) (length (now (s .entry))) (length (now (counts .entry))) (length (now (dst .entry))) (length (now (sizes .entry)))) corners distance (now (cell .entry)))) (now (answer .entry)) (now (answer .exit)) r ⌝ }
+    ensures { λ r. ⌜ r ≡ toldOf (fitted (length (now (answer .entry))) (offsetEntry (lent corners (length (now (answer .entry))) (length (now (s .entry))) (length (now (counts .entry))) (length (now (dst .entry))) (length (now (sizes .entry)))) corners distance (now (cell .entry)))) ⌝ }
+    ensures { λ _. ⌜ now (answer .exit) ≡ written (fitted (length (now (answer .entry))) (offsetEntry (lent corners (length (now (answer .entry))) (length (now (s .entry))) (length (now (counts .entry))) (length (now (dst .entry))) (length (now (sizes .entry)))) corners distance (now (cell .entry)))) (now (answer .entry)) ⌝ }
     ensures { λ _. ⌜ Cleared (now (s .entry)) (now (counts .entry)) (now (dst .entry)) (now (sizes .entry)) (now (s .exit)) (now (counts .exit)) (now (dst .exit)) (now (sizes .exit)) ⌝ }
 {
     let limit = corners as usize;
@@ -261,12 +251,11 @@ pub extern "C" fn solid_offset(
     room::zero(dst);
     room::zero_counts(sizes);
     let v = e.verdict;
-    told_by(v, e.bytes)
+    ended::told_by(v, e.bytes)
 }
 
 // The hollow solid likewise, with a wall of this thickness.
-#[no_mangle]
-pub extern "C" fn solid_hollow(
+pub fn hollow(
     cell: &[u8],
     thickness: f64,
     corners: u64,
@@ -276,7 +265,8 @@ pub extern "C" fn solid_hollow(
     sizes: &mut [u64],
     answer: &mut [u8],
 ) -> u64
-    ensures { λ r. ⌜ Told (fitted (length (now (answer .entry))) (hollowEntry (lent corners (length (now (answer .entry))) (length (now (s .entry))) (length (now (counts .entry))) (length (now (dst .entry))) (length (now (sizes .entry)))) corners thickness (now (cell .entry)))) (now (answer .entry)) (now (answer .exit)) r ⌝ }
+    ensures { λ r. ⌜ r ≡ toldOf (fitted (length (now (answer .entry))) (hollowEntry (lent corners (length (now (answer .entry))) (length (now (s .entry))) (length (now (counts .entry))) (length (now (dst .entry))) (length (now (sizes .entry)))) corners thickness (now (cell .entry)))) ⌝ }
+    ensures { λ _. ⌜ now (answer .exit) ≡ written (fitted (length (now (answer .entry))) (hollowEntry (lent corners (length (now (answer .entry))) (length (now (s .entry))) (length (now (counts .entry))) (length (now (dst .entry))) (length (now (sizes .entry)))) corners thickness (now (cell .entry)))) (now (answer .entry)) ⌝ }
     ensures { λ _. ⌜ Cleared (now (s .entry)) (now (counts .entry)) (now (dst .entry)) (now (sizes .entry)) (now (s .exit)) (now (counts .exit)) (now (dst .exit)) (now (sizes .exit)) ⌝ }
 {
     let limit = corners as usize;
@@ -294,5 +284,5 @@ pub extern "C" fn solid_hollow(
     room::zero(dst);
     room::zero_counts(sizes);
     let v = e.verdict;
-    told_by(v, e.bytes)
+    ended::told_by(v, e.bytes)
 }
