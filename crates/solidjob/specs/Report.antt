@@ -1,0 +1,100 @@
+-- What the program prints for a job (01, "Job file").
+use mathlib.Core.Path.{_≡_, refl, sym, ap, _∙_}
+use mathlib.Core.Bool.{true}
+use mathlib.Core.List.{List, [], append-nil}
+use Prim.Native.Nat.{ℕ, _≤_, _<_}
+use native.Mathlib.Omega.{arith}
+use lib.ListN.{length, take}
+use lib.Seq.{sets, length-sets, length-take-le, sets-eq, take-at}
+use Rattle.io.specs.Counts.{Counts}
+use Rattle.refusal.specs.declared.Refusal.{Refusal}
+use Rattle.refusal.specs.declared.Verdict.{Verdict}
+use Rattle.refusal.specs.declared.Verdict.the-variants.{Fine, Refused}
+use Rattle.refusal.specs.Outcome.{Outcome, ok, refused}
+use Rattle.space.specs.Shapes.{Face}
+use Rattle.ended.specs.declared.Ended.{Ended}
+use Rattle.ended.specs.Ends.{stopped, endedOf, written}
+use Rattle.job.specs.declared.Layout.{Layout}
+use Rattle.job.specs.declared.Laid.{Laid}
+use Rattle.job.specs.declared.Laid.the-variants as J
+use Rattle.job.specs.Read.{laid}
+use Rattle.intake.specs.Layouts.{Stood}
+use Rattle.jobs.specs.Jobs.{openJob}
+use Rattle.fused_bytes.specs.Bytes.{fusedAnswer}
+use Rattle.lines.specs.Text.{answerLine, walk, linesOf}
+use Rattle.lines.specs.Bodies.{fusedLines, lines-bodies}
+use Rattle.fuse_call.specs.Calls.{fuseLaid}
+use Rattle.fuse_served.specs.Entry.{fuseEntry}
+use Rattle.fuse_served.specs.Laws.{entry-opened, entry-made, entry-refused}
+
+unfoldable pub numberBy : Verdict → ℕ
+numberBy Fine = 0
+numberBy (Refused r) = r .number
+
+-- "A refusal prints the first line alone, with its number"
+unfoldable pub printed : Outcome (List ℕ) → List ℕ
+printed (ok l) = linesOf 0 l
+printed (refused r) = answerLine (r .number)
+
+-- "reads it from standard input, lends room for 720 corners, and fuses"
+unfoldable pub report : List ℕ → List ℕ
+report job = printed (fuseEntry true 720 job)
+
+-- of an answer the lines of its bodies are printed, each count the length of its list
+pub report-bodies : (job : List ℕ) (bs : List (List (List Face))) → fuseEntry true 720 job ≡ ok (fusedAnswer bs) → length (fusedAnswer bs) < 4294967296 → report job ≡ fusedLines bs
+unfolding report printed
+report-bodies job bs e h = ap printed e ∙ lines-bodies bs h
+
+-- ---- the code
+
+unfoldable pub bytesOf : Outcome (List ℕ) → List ℕ
+bytesOf (ok l) = l
+bytesOf (refused r) = []
+
+bytes-taken : (o : Outcome (List ℕ)) (a : List ℕ) → endedOf o .bytes ≤ length a → take (endedOf o .bytes) (written o a) ≡ bytesOf o
+unfolding bytesOf endedOf written
+bytes-taken (ok l) a h = ap (take (length l)) (sets-eq l a 0 (omega (arith, h))) ∙ take-at l _ (length l) refl
+bytes-taken (refused r) a h = refl
+
+-- what the job's call hands on
+abbrev pub Done : List ℕ → Ended → List ℕ → Type 0
+Done l r a′ = ((r ≡ endedOf (fuseEntry true 720 l)) × (r .bytes ≤ 46080)) × ((take (r .bytes) a′ ≡ bytesOf (fuseEntry true 720 l)) × Counts (r .bytes) a′)
+
+done : (l a a′ : List ℕ) (r : Ended) → r ≡ endedOf (fuseEntry true 720 l) → r .bytes ≤ 46080 → a′ ≡ written (fuseEntry true 720 l) a → length a ≡ 46080 → length a′ ≡ length a → Done l r a′
+done l a a′ r e n w k m =
+    let o = fuseEntry true 720 l in
+    let b : r .bytes ≡ endedOf o .bytes = ap (λ x. x .bytes) e in (
+      (e, n),
+      (
+        ap (λ x. take x a′) b ∙ ap (take (endedOf o .bytes)) w ∙ bytes-taken o a (omega (arith, b, n, k)),
+        (omega (arith, n, k, m), sym (length-take-le (r .bytes) a′ (omega (arith, n, k, m)))),
+      ),
+    )
+
+module _ (l : List ℕ) (c : Laid) (e : laid c ≡ openJob true l) where
+  pub job-stood : (y : Layout) → c ≡ J.Made y → Stood l (y .first) × Stood l (y .second)
+  job-stood y g = let q = entry-opened true true 720 l refl c e y g in (q .1, q .2)
+
+  pub job-fused : (y : Layout) (a a′ : List ℕ) (r : Ended) → c ≡ J.Made y → ((r ≡ endedOf (fuseLaid l 720 y)) × (r .bytes ≤ 46080)) × (a′ ≡ written (fuseLaid l 720 y) a) → length a ≡ 46080 → length a′ ≡ length a → Done l r a′
+  job-fused y a a′ r g h k m =
+      let n = entry-made true true 720 l refl c e y r a a′ g (omega arith) ((h .0 .0, omega (arith, h .0 .1)), h .1) in
+      done l a a′ r (n .0 .0) (h .0 .1) (n .1) k m
+
+  pub job-refused : (x : Refusal) (a : List ℕ) (r : Ended) → c ≡ J.Refused x → r ≡ stopped x → length a ≡ 46080 → Done l r a
+  job-refused x a r g h k =
+      let n = entry-refused true true 720 l refl c e x r a g h in
+      done l a a r (n .0 .0) (omega (arith, ap (λ z. z .bytes) h)) (n .1) k refl
+
+printed-is : (o : Outcome (List ℕ)) → linesOf (numberBy (endedOf o .verdict)) (bytesOf o) ≡ printed o
+unfolding numberBy printed endedOf bytesOf linesOf walk
+printed-is (ok l) = refl
+printed-is (refused r) = append-nil (answerLine (r .number))
+
+pub report-put : (l a text text′ : List ℕ) (e : Ended) (n r : ℕ) → Done l e a → n ≡ numberBy (e .verdict) → (r ≡ length (linesOf n (take (e .bytes) a))) × (r ≤ length text) → text′ ≡ sets text 0 (linesOf n (take (e .bytes) a)) →
+    ((r ≡ length (report l)) × Counts r text′) × (text′ ≡ sets text 0 (report l))
+unfolding report
+report-put l a text text′ e n r d q g t =
+    let o = fuseEntry true 720 l in
+    let k : linesOf n (take (e .bytes) a) ≡ report l = ap (λ x. linesOf x (take (e .bytes) a)) (q ∙ ap (λ x. numberBy (x .verdict)) (d .0 .0)) ∙ ap (linesOf (numberBy (endedOf o .verdict))) (d .1 .0) ∙ printed-is o in
+    let m : length text′ ≡ length text = ap length t ∙ length-sets text 0 (linesOf n (take (e .bytes) a)) in
+    ((g .0 ∙ ap length k, (omega (arith, g .1, m), sym (length-take-le r text′ (omega (arith, g .1, m))))), t ∙ ap (sets text 0) k)
