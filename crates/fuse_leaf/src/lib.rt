@@ -1,6 +1,6 @@
 // The fused bodies of a list of cells, for the tests that call fusing's steps from outside: loose faces reach refusals that no whole
-// job reaches. 64 says that the slices hold no list of cells, or that the answer is too short; everything is then as it was.
-use fused_bytes::Ended;
+// job reaches. 64 says that the slices hold no list of cells, or that the sizes or the answer are too short; the answer is then as it was.
+use ended::Ended;
 use refusal::Verdict;
 use space::Precision;
 use stack::Stack;
@@ -10,8 +10,9 @@ ghost use lib.ListN.{length};
 ghost use Rattle.refusal.specs.Outcome.{then};
 ghost use Rattle.lent.specs.Lent.{numberBy};
 ghost use Rattle.stack.specs.Stacks.{listAt, Holds};
+ghost use Rattle.ended.specs.Ends.{endedOf, written};
 ghost use Rattle.fused.specs.Bodies.{fuseCells};
-ghost use Rattle.fused_bytes.specs.Bytes.{answerOf, Answered};
+ghost use Rattle.fused_bytes.specs.Bytes.{answerOf};
 ghost use Rattle.fuse_leaf.specs.Fusing.{fuseLent, Told};
 
 const NONE: u64 = 64;
@@ -34,17 +35,18 @@ fn fuse_here(
     list: Stack,
     d: &[f64],
     counts: &[u64],
-    sizes: &[u64],
+    sizes: &mut [u64],
     answer: &mut [u8],
 ) -> Ended
-    requires { ⌜ Holds limit list (now d) (now counts) (now sizes) × (limit ≤ 4608) × (64 * limit ≤ length (now answer)) ⌝ }
-    ensures { λ r. ⌜ Answered (answerOf (then (listAt list (now (d .entry)) (now (counts .entry)) (now (sizes .entry))) (fuseCells t limit))) (now (answer .entry)) (now (answer .exit)) r ⌝ }
+    requires { ⌜ Holds limit list (now d) (now counts) (now sizes) × (limit ≤ 4608) × (limit ≤ length (now sizes)) × (64 * limit ≤ length (now answer)) ⌝ }
+    ensures { λ r. ⌜ r ≡ endedOf (answerOf (then (listAt list (now (d .entry)) (now (counts .entry)) (now (sizes .entry))) (fuseCells t limit))) ⌝ }
+    ensures { λ _. ⌜ now (answer .exit) ≡ written (answerOf (then (listAt list (now (d .entry)) (now (counts .entry)) (now (sizes .entry))) (fuseCells t limit))) (now (answer .entry)) ⌝ }
 {
     let mut points = [0.0; 13824];
     let mut corners = [0u64; 4608];
     let mut lows = [0.0; 4096];
     let mut highs = [0.0; 4096];
-    let mut places = [0u64; 4608];
+    let mut places = [0u64; 4096];
     let mut cycles = [0u64; 4608];
     let mut lengths = [0u64; 4608];
     let mut starts = [0u64; 4609];
@@ -91,7 +93,8 @@ fn fuse_here(
     )
 }
 
-// The number, and the bytes of the bodies at the front of the answer. The first `cells` cells stand in `d`, `counts` and `sizes`.
+// The number, and the bytes of the bodies at the front of the answer. The first `cells` cells stand in `d`, `counts` and `sizes`, which
+// serves as work memory once they are read.
 #[no_mangle]
 pub extern "C" fn leaf_fuse(
     linear: f64,
@@ -100,7 +103,7 @@ pub extern "C" fn leaf_fuse(
     cells: usize,
     d: &[f64],
     counts: &[u64],
-    sizes: &[u64],
+    sizes: &mut [u64],
     answer: &mut [u8],
 ) -> u64
     ensures { λ r. ⌜ Told (fuseLent (record { linear = linear; local = local }) limit cells (now (d .entry)) (now (counts .entry)) (now (sizes .entry)) (length (now (answer .entry)))) (now (answer .entry)) (now (answer .exit)) r ⌝ }
@@ -109,6 +112,9 @@ pub extern "C" fn leaf_fuse(
         return NONE;
     }
     if answer.len() / 64 < limit {
+        return NONE;
+    }
+    if sizes.len() < limit {
         return NONE;
     }
     let t = Precision { linear, local };

@@ -7,6 +7,9 @@ use lib.Ieee.{Float}
 use Rattle.ended.specs.Ends as E
 use Rattle.cell_answer.specs.Ending.{written}
 use Rattle.solid_cells.specs.Entry as C
+use Rattle.fuse_lent.specs.Lent.{lends}
+use Rattle.fuse_served.specs.Entry as F
+use Rattle.fuse_cleared.specs.Cleared.{Cleared}
 use Rattle.solid_offset.specs.Entries as O
 use Rattle.solid_mesh.specs.Mesh.{Drawn, meshCall}
 
@@ -16,6 +19,12 @@ pub record Handed : Type 0 where
   pub answer : List ℕ
   pub floats : List (List Float)
   pub counts : List (List ℕ)
+
+-- the fused Boolean
+abbrev pub FuseDone : (job : List ℕ) (corners : ℕ) (rest spare dst : List Float) (held slots counts sizes seats lengths owners cells cuts runs keys begins ord ends marks out many shells answer : List ℕ) (r : ℕ) (rest′ spare′ dst′ : List Float) (held′ slots′ counts′ sizes′ seats′ lengths′ owners′ cells′ cuts′ runs′ keys′ begins′ ord′ ends′ marks′ out′ many′ shells′ answer′ : List ℕ) → Type 0
+FuseDone job corners rest spare dst held slots counts sizes seats lengths owners cells cuts runs keys begins ord ends marks out many shells answer r rest′ spare′ dst′ held′ slots′ counts′ sizes′ seats′ lengths′ owners′ cells′ cuts′ runs′ keys′ begins′ ord′ ends′ marks′ out′ many′ shells′ answer′ =
+    let o = F.fuseEntry (lends corners (length answer) (length rest) (length spare) (length dst) (length held) (length slots) (length counts) (length sizes) (length seats) (length lengths) (length owners) (length cells) (length cuts) (length runs) (length keys) (length begins) (length ord) (length ends) (length marks) (length out) (length many) (length shells)) corners job in
+    (r ≡ E.toldOf o) × ((answer′ ≡ E.written o answer) × Cleared rest rest′ spare spare′ dst dst′ held held′ slots slots′ counts counts′ sizes sizes′ seats seats′ lengths lengths′ owners owners′ cells cells′ cuts cuts′ runs runs′ keys keys′ begins begins′ ord ord′ ends ends′ marks marks′ out out′ many many′ shells shells′)
 
 -- the cell Boolean
 abbrev pub CellsDone : (job : List ℕ) (corners : ℕ) (rest spare dst : List Float) (held slots counts sizes order chain head seen work nodes cuts answer : List ℕ) (r : ℕ) (rest′ spare′ dst′ : List Float) (held′ slots′ counts′ sizes′ order′ chain′ head′ seen′ work′ nodes′ cuts′ answer′ : List ℕ) → Type 0

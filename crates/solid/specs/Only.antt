@@ -3,7 +3,42 @@ use mathlib.Core.Path.{_≡_, sym, _∙_}
 use mathlib.Core.List.{List, [], _∷_}
 use Prim.Native.Nat.{ℕ}
 use lib.Ieee.{Float}
-use Rattle.solid.specs.Calls.{Handed, CellsDone, OffsetDone, HollowDone, MeshDone}
+use Rattle.solid.specs.Calls.{Handed, FuseDone, CellsDone, OffsetDone, HollowDone, MeshDone}
+
+-- ---- the fused Boolean
+
+module _ (job : List ℕ) (corners : ℕ) (rest spare dst : List Float) (held slots counts sizes seats lengths owners cells cuts runs keys begins ord ends marks out many shells answer : List ℕ) where
+  pub fuse-only : (r₁ r₂ : ℕ) (rest₁ spare₁ dst₁ rest₂ spare₂ dst₂ : List Float) (held₁ slots₁ counts₁ sizes₁ seats₁ lengths₁ owners₁ cells₁ cuts₁ runs₁ keys₁ begins₁ ord₁ ends₁ marks₁ out₁ many₁ shells₁ answer₁ held₂ slots₂ counts₂ sizes₂ seats₂ lengths₂ owners₂ cells₂ cuts₂ runs₂ keys₂ begins₂ ord₂ ends₂ marks₂ out₂ many₂ shells₂ answer₂ : List ℕ)
+      → FuseDone job corners rest spare dst held slots counts sizes seats lengths owners cells cuts runs keys begins ord ends marks out many shells answer r₁ rest₁ spare₁ dst₁ held₁ slots₁ counts₁ sizes₁ seats₁ lengths₁ owners₁ cells₁ cuts₁ runs₁ keys₁ begins₁ ord₁ ends₁ marks₁ out₁ many₁ shells₁ answer₁
+      → FuseDone job corners rest spare dst held slots counts sizes seats lengths owners cells cuts runs keys begins ord ends marks out many shells answer r₂ rest₂ spare₂ dst₂ held₂ slots₂ counts₂ sizes₂ seats₂ lengths₂ owners₂ cells₂ cuts₂ runs₂ keys₂ begins₂ ord₂ ends₂ marks₂ out₂ many₂ shells₂ answer₂
+      → _≡_ {A = Handed} (record { number = r₁; answer = answer₁; floats = rest₁ ∷ spare₁ ∷ dst₁ ∷ []; counts = held₁ ∷ slots₁ ∷ counts₁ ∷ sizes₁ ∷ seats₁ ∷ lengths₁ ∷ owners₁ ∷ cells₁ ∷ cuts₁ ∷ runs₁ ∷ keys₁ ∷ begins₁ ∷ ord₁ ∷ ends₁ ∷ marks₁ ∷ out₁ ∷ many₁ ∷ shells₁ ∷ [] }) (record { number = r₂; answer = answer₂; floats = rest₂ ∷ spare₂ ∷ dst₂ ∷ []; counts = held₂ ∷ slots₂ ∷ counts₂ ∷ sizes₂ ∷ seats₂ ∷ lengths₂ ∷ owners₂ ∷ cells₂ ∷ cuts₂ ∷ runs₂ ∷ keys₂ ∷ begins₂ ∷ ord₂ ∷ ends₂ ∷ marks₂ ∷ out₂ ∷ many₂ ∷ shells₂ ∷ [] })
+  fuse-only r₁ r₂ rest₁ spare₁ dst₁ rest₂ spare₂ dst₂ held₁ slots₁ counts₁ sizes₁ seats₁ lengths₁ owners₁ cells₁ cuts₁ runs₁ keys₁ begins₁ ord₁ ends₁ marks₁ out₁ many₁ shells₁ answer₁ held₂ slots₂ counts₂ sizes₂ seats₂ lengths₂ owners₂ cells₂ cuts₂ runs₂ keys₂ begins₂ ord₂ ends₂ marks₂ out₂ many₂ shells₂ answer₂ d e =
+      let c = d .1 .1 in
+      let g = e .1 .1 in
+      let number′ = d .0 ∙ sym (e .0) in
+      let answer′ = d .1 .0 ∙ sym (e .1 .0) in
+      let rest′ = c .z-rest ∙ sym (g .z-rest) in
+      let spare′ = c .z-spare ∙ sym (g .z-spare) in
+      let dst′ = c .z-dst ∙ sym (g .z-dst) in
+      let held′ = c .z-held ∙ sym (g .z-held) in
+      let slots′ = c .z-slots ∙ sym (g .z-slots) in
+      let counts′ = c .z-counts ∙ sym (g .z-counts) in
+      let sizes′ = c .z-sizes ∙ sym (g .z-sizes) in
+      let seats′ = c .z-seats ∙ sym (g .z-seats) in
+      let lengths′ = c .z-lengths ∙ sym (g .z-lengths) in
+      let owners′ = c .z-owners ∙ sym (g .z-owners) in
+      let cells′ = c .z-cells ∙ sym (g .z-cells) in
+      let cuts′ = c .z-cuts ∙ sym (g .z-cuts) in
+      let runs′ = c .z-runs ∙ sym (g .z-runs) in
+      let keys′ = c .z-keys ∙ sym (g .z-keys) in
+      let begins′ = c .z-begins ∙ sym (g .z-begins) in
+      let ord′ = c .z-ord ∙ sym (g .z-ord) in
+      let ends′ = c .z-ends ∙ sym (g .z-ends) in
+      let marks′ = c .z-marks ∙ sym (g .z-marks) in
+      let out′ = c .z-out ∙ sym (g .z-out) in
+      let many′ = c .z-many ∙ sym (g .z-many) in
+      let shells′ = c .z-shells ∙ sym (g .z-shells) in
+      λ i. record { number = number′ i; answer = answer′ i; floats = rest′ i ∷ spare′ i ∷ dst′ i ∷ []; counts = held′ i ∷ slots′ i ∷ counts′ i ∷ sizes′ i ∷ seats′ i ∷ lengths′ i ∷ owners′ i ∷ cells′ i ∷ cuts′ i ∷ runs′ i ∷ keys′ i ∷ begins′ i ∷ ord′ i ∷ ends′ i ∷ marks′ i ∷ out′ i ∷ many′ i ∷ shells′ i ∷ [] }
 
 -- ---- the cell Boolean
 

@@ -1,8 +1,66 @@
 // The library as C and C++ call it (`include/solid.h`). No call has a `requires`; what each hands back is determined (`specs/Only`).
-ghost use Rattle.solid.specs.Calls.{CellsDone, OffsetDone, HollowDone, MeshDone};
+ghost use Rattle.solid.specs.Calls.{FuseDone, CellsDone, OffsetDone, HollowDone, MeshDone};
 
-// The cells of a job's operation: the number of the refusal, or 256 times the bytes of the answer, which stands at the front of `answer`.
-// `corners` is the room; all slices but the answer are work memory, and zero after the call.
+// The fused bodies of a job's operation: the number of the refusal, or 256 times the bytes of the answer, which stands at the front of
+// `answer`. `corners` is the room; all slices but the answer are work memory, and zero after the call.
+#[no_mangle]
+pub extern "C" fn solid_fuse(
+    job: &[u8],
+    corners: u64,
+    rest: &mut [f64],
+    spare: &mut [f64],
+    dst: &mut [f64],
+    held: &mut [u64],
+    slots: &mut [u64],
+    counts: &mut [u64],
+    sizes: &mut [u64],
+    seats: &mut [u64],
+    lengths: &mut [u64],
+    owners: &mut [u64],
+    cells: &mut [u64],
+    cuts: &mut [u64],
+    runs: &mut [u64],
+    keys: &mut [u64],
+    begins: &mut [u64],
+    ord: &mut [u64],
+    ends: &mut [u64],
+    marks: &mut [u64],
+    out: &mut [u64],
+    many: &mut [u64],
+    shells: &mut [u64],
+    answer: &mut [u8],
+) -> u64
+    ensures { λ r. ⌜ FuseDone (now (job .entry)) corners (now (rest .entry)) (now (spare .entry)) (now (dst .entry)) (now (held .entry)) (now (slots .entry)) (now (counts .entry)) (now (sizes .entry)) (now (seats .entry)) (now (lengths .entry)) (now (owners .entry)) (now (cells .entry)) (now (cuts .entry)) (now (runs .entry)) (now (keys .entry)) (now (begins .entry)) (now (ord .entry)) (now (ends .entry)) (now (marks .entry)) (now (out .entry)) (now (many .entry)) (now (shells .entry)) (now (answer .entry)) r (now (rest .exit)) (now (spare .exit)) (now (dst .exit)) (now (held .exit)) (now (slots .exit)) (now (counts .exit)) (now (sizes .exit)) (now (seats .exit)) (now (lengths .exit)) (now (owners .exit)) (now (cells .exit)) (now (cuts .exit)) (now (runs .exit)) (now (keys .exit)) (now (begins .exit)) (now (ord .exit)) (now (ends .exit)) (now (marks .exit)) (now (out .exit)) (now (many .exit)) (now (shells .exit)) (now (answer .exit)) ⌝ }
+{
+    solid_fuse::fuse(
+        job,
+        corners,
+        rest,
+        spare,
+        dst,
+        held,
+        slots,
+        counts,
+        sizes,
+        seats,
+        lengths,
+        owners,
+        cells,
+        cuts,
+        runs,
+        keys,
+        begins,
+        ord,
+        ends,
+        marks,
+        out,
+        many,
+        shells,
+        answer,
+    )
+}
+
+// The cells of a job's operation, in the same way.
 #[no_mangle]
 pub extern "C" fn solid_cells(
     job: &[u8],

@@ -48,7 +48,7 @@ fn cell(faces: &Corners) -> Cell {
 /// A room that is ample, or that has a few corners more than the faces.
 fn list(random: &mut Random, tolerances: Tolerances, cells: Vec<Cell>) -> List {
     let room = match random.below(4) {
-        0 => corners(&cells) + random.below(3),
+        0 => (corners(&cells) + random.below(3)).min(ROOM),
         _ => (2 * corners(&cells)).clamp(720, ROOM),
     };
     List {

@@ -13,7 +13,7 @@ mod raw {
             d_n: usize,
             counts: *const u64,
             counts_n: usize,
-            sizes: *const u64,
+            sizes: *mut u64,
             sizes_n: usize,
             answer: *mut u8,
             answer_n: usize,
@@ -58,9 +58,11 @@ impl Fuser {
         }
     }
 
-    /// The call alone, with so many bytes lent for the answer.
+    /// The call alone, with so many bytes lent for the answer, and as many sizes as the room has corners.
     fn call(&mut self, list: &Given, bytes: usize) -> u64 {
         let [linear, local] = list.tolerances;
+        let mut sizes = list.sizes.clone();
+        sizes.resize(sizes.len().max(list.room), 0);
         // SAFETY: slices of the length that is named, each at the end of its memory.
         unsafe {
             raw::leaf_fuse(
@@ -72,8 +74,8 @@ impl Fuser {
                 list.floats.len(),
                 self.counts.lay(&list.counts),
                 list.counts.len(),
-                self.sizes.lay(&list.sizes),
-                list.sizes.len(),
+                self.sizes.lay(&sizes),
+                sizes.len(),
                 self.answer.end(bytes),
                 bytes,
             )
