@@ -203,7 +203,7 @@ pub fn any(random: &mut Random) -> Job {
     }
 }
 
-pub const FAMILIES: [Family<Job>; 18] = [
+pub const FAMILIES: [Family<Job>; 19] = [
     family("boxes", |r| lattice(r.below(LATTICE)), 1),
     family(
         "prisms",
@@ -233,8 +233,25 @@ pub const FAMILIES: [Family<Job>; 18] = [
     family("boxes far out", wide, 1),
     family("64 faces", corner_of_many, 10),
     family("coarse", coarse, 1),
+    family("local a 16th", sixteenth, 1),
     family("any", any, 4),
 ];
+
+type Make = fn(&mut Random) -> Job;
+
+/// Jobs whose fused call gives a number that few others reach: how one is made, from which seed, and the number.
+const RARE: [(Make, u64, u32); 5] = [
+    (coarse, 31, 17),
+    (|r| both(r, split_side), 2412, 21),
+    (|r| both(r, split_side), 4077, 21),
+    (|r| both(r, split_side), 4125, 22),
+    (|r| both(r, split_side), 4758, 22),
+];
+
+/// Each of these jobs with its number.
+pub fn rare() -> [(Job, u32); 5] {
+    RARE.map(|(make, seed, number)| (make(&mut Random::new(seed)), number))
+}
 
 /// A small box at a point of a solid of 64 faces: what is left of it may have more.
 fn corner_of_many(random: &mut Random) -> Job {
@@ -274,6 +291,25 @@ fn coarse(random: &mut Random) -> Job {
         first,
         second: second.turned(turn).shifted(by),
         operation: operation(random),
+    }
+}
+
+/// Solids of few faces and the greatest local: fusing merges corners of one cell, and facets meet that should not.
+pub fn sixteenth(random: &mut Random) -> Job {
+    let solids: [fn(&mut Random) -> Solid; 4] = [
+        split_side,
+        split_side,
+        |r| pyramid(r.between(3, 6), 1.0, 1.0 + r.unit()),
+        |r| prism(r.between(3, 5), 1.0, 1.0),
+    ];
+    let solid = random.pick(&solids);
+    let linear = random.pick(&[4, 10, 20, 40]);
+    Job {
+        tolerances: Tolerances {
+            linear: 1.0 / (1u64 << linear) as f64,
+            local: 1.0 / 16.0,
+        },
+        ..both(random, solid)
     }
 }
 
