@@ -27,8 +27,8 @@ impl fmt::Debug for Question {
     }
 }
 
-/// The greatest room that is lent: more than 512 cells of some 26 corners.
-pub const MOST_CORNERS: usize = 16_384;
+/// The greatest room that is lent: enough for more than 512 cells, and for more than 4,096 points.
+pub const MOST_CORNERS: usize = 32_768;
 
 /// The most bytes of answer memory.
 pub const MOST_MEMORY: usize = CORNER_BYTES * MOST_CORNERS + 8_192;

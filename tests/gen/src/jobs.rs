@@ -240,8 +240,19 @@ pub const FAMILIES: [Family<Job>; 19] = [
 type Make = fn(&mut Random) -> Job;
 
 /// Jobs whose fused call gives a number that few others reach: how one is made, from which seed, and the number.
-const RARE: [(Make, u64, u32); 5] = [
+const RARE: [(Make, u64, u32); 16] = [
+    (|r| large(r, 64), 0, 11),
+    (sixteenth, 79, 13),
+    (sixteenth, 555, 13),
+    (|_| sliced(), 0, 14),
+    (sixteenth, 661, 15),
+    (sixteenth, 781, 15),
+    (coarse, 18141, 16),
     (coarse, 31, 17),
+    (coarse, 6697, 17),
+    (sixteenth, 1749, 18),
+    (sixteenth, 90, 19),
+    (sixteenth, 258, 19),
     (|r| both(r, split_side), 2412, 21),
     (|r| both(r, split_side), 4077, 21),
     (|r| both(r, split_side), 4125, 22),
@@ -249,8 +260,20 @@ const RARE: [(Make, u64, u32); 5] = [
 ];
 
 /// Each of these jobs with its number.
-pub fn rare() -> [(Job, u32); 5] {
+pub fn rare() -> [(Job, u32); 16] {
     RARE.map(|(make, seed, number)| (make(&mut Random::new(seed)), number))
+}
+
+/// A tall prism of 62 sides beside a bowl of 61, whose planes cut it one above another: more than 4,096 points in few cells.
+fn sliced() -> Job {
+    let along = |i: usize| 2.0 * i as f64 / 61.0 - 1.0;
+    let profile = |y: f64| (0..62).map(move |i| [along(i), y, along(i) * along(i)]);
+    let bowl = Solid {
+        points: profile(1.0).chain(profile(-1.0)).collect(),
+        faces: prism(62, 1.0, 1.0).faces,
+    };
+    let tall = prism(62, 0.5, 20.0).shifted([4.0, 0.0, -11.0]);
+    Job::usual(tall, bowl, Operation::Union)
 }
 
 /// A small box at a point of a solid of 64 faces: what is left of it may have more.
