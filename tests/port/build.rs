@@ -12,9 +12,7 @@ fn main() {
         "split_leaf",
         "mesh_leaf",
         "solid_leaves",
-        "solid_cells",
-        "solid_offset",
-        "solid_mesh",
+        "solid",
     ] {
         let archive = native.join(format!("lib{name}.a"));
         assert!(

@@ -2,15 +2,31 @@
 use crate::timed::{both, row};
 use gen::solid::{cube, gem, prism, Reshape};
 use gen::Random;
-use oracle::{Call, CellFile, Job, Lent, Operation, Solid, Tolerances, CORNER_BYTES};
-use port::calls::{Asked, Desk, Entry, Lending, CELLS, HOLLOW, OFFSET};
+use oracle::{
+    Call, CellFile, Job, Lent, Operation, Solid, Tolerances, CORNER_BYTES, SOLIDJOB_ROOM,
+};
+use port::calls::{Asked, Desk, Entry, Lending, CELLS, FUSE, HOLLOW, OFFSET};
 
-/// The room of `solidjob`, or what the call needs.
-const ROOM: usize = 720;
+/// A room in which unions of 20-face solids are fused, for the other calls that of `solidjob`; or what the call needs.
+fn room(call: Call, given: &[u8]) -> usize {
+    let usual = match call {
+        Call::Fuse => 8_192,
+        _ => SOLIDJOB_ROOM,
+    };
+    call.least_room(given).max(usual)
+}
+
+/// How many times the Rust's time a call may take.
+fn wish(name: &str) -> f64 {
+    match name {
+        "fuse, union of 20-face solids" => 1.5,
+        _ => 1.0,
+    }
+}
 
 /// One row: the call of these bytes in a room of its own.
 fn timed(name: &str, entry: Entry, call: Call, given: &[u8]) {
-    let corners = call.least_room(given).max(ROOM);
+    let corners = room(call, given);
     let memory = CORNER_BYTES * corners;
     let asked = Asked {
         given,
@@ -27,7 +43,7 @@ fn timed(name: &str, entry: Entry, call: Call, given: &[u8]) {
     desk.give(&asked);
     assert_eq!(desk.call(&asked) % 256, 0, "a timed call is refused");
     let rust = |()| call.answer(given, corners, memory);
-    row(name, both(&[()], |()| desk.call(&asked), rust), 1.0);
+    row(name, both(&[()], |()| desk.call(&asked), rust), wish(name));
 }
 
 /// Two solids with three faces at each point whose operations are answered.
@@ -35,8 +51,9 @@ fn gems(random: &mut Random, faces: usize) -> [Solid; 2] {
     loop {
         let (a, b) = (gem(random, faces), gem(random, faces));
         let pair = [a, b.shifted([0.3, 0.2, 0.1])];
-        let job = Job::usual(pair[0].clone(), pair[1].clone(), Operation::Union);
-        if oracle::cells(&job.bytes(), Lent::UNBOUNDED).is_ok() {
+        let job = Job::usual(pair[0].clone(), pair[1].clone(), Operation::Union).bytes();
+        let free = Lent::UNBOUNDED;
+        if oracle::cells(&job, free).is_ok() && oracle::fuse(&job, free).is_ok() {
             return pair;
         }
     }
@@ -56,21 +73,26 @@ fn pairs() -> [(&'static str, [Solid; 2]); 4] {
     ]
 }
 
-pub fn cells() {
+/// These operations of each pair through a call of jobs.
+fn jobs(called: &str, entry: Entry, call: Call, operations: &[(&str, Operation)]) {
     for (name, [first, second]) in pairs() {
-        for (what, operation) in [
-            ("intersection", Operation::Intersection),
-            ("union", Operation::Union),
-        ] {
-            let job = Job::usual(first.clone(), second.clone(), operation).bytes();
-            timed(
-                &format!("cells, {what} of {name}"),
-                CELLS,
-                Call::Cells,
-                &job,
-            );
+        for (what, operation) in operations {
+            let job = Job::usual(first.clone(), second.clone(), *operation).bytes();
+            timed(&format!("{called}, {what} of {name}"), entry, call, &job);
         }
     }
+}
+
+const INTERSECTION: (&str, Operation) = ("intersection", Operation::Intersection);
+const DIFFERENCE: (&str, Operation) = ("difference", Operation::Difference);
+const UNION: (&str, Operation) = ("union", Operation::Union);
+
+pub fn cells() {
+    jobs("cells", CELLS, Call::Cells, &[INTERSECTION, UNION]);
+}
+
+pub fn fuse() {
+    jobs("fuse", FUSE, Call::Fuse, &[INTERSECTION, DIFFERENCE, UNION]);
 }
 
 pub fn moves() {

@@ -16,5 +16,6 @@ fn main() {
     cutting::meshes();
     solids::checks();
     calls::cells();
+    calls::fuse();
     calls::moves();
 }

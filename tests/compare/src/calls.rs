@@ -3,13 +3,14 @@ use crate::report::{Report, Told};
 use crate::Scale;
 use gen::calls::{self, hex, Question, MOST_CORNERS, MOST_MEMORY};
 use gen::family::Family;
-use gen::{cells, damage, facets, jobs, pairs, Random};
-use oracle::{Call, CellFile, Job, Solid, Tolerances, CORNER_BYTES};
-use port::calls::{Asked, Desk, Entry, Lending, CELLS, HOLLOW, MESH, OFFSET};
+use gen::{cells, damage, facets, jobs, limits, pairs, Random};
+use oracle::{Call, CellFile, Job, Solid, Tolerances, CORNER_BYTES, SOLIDJOB_ROOM};
+use port::calls::{Asked, Desk, Entry, Lending, CELLS, FUSE, HOLLOW, MESH, OFFSET};
 use std::{fmt, thread};
 
-/// Questions of one family.
+/// Questions of one family; fewer where they are fused, which takes long.
 const EACH: usize = 8_000;
+const EACH_FUSED: usize = 1_000;
 
 /// Threads that call at the same time.
 const THREADS: usize = 4;
@@ -60,12 +61,18 @@ fn theirs((q, _): &Lent) -> Told<Answer> {
     answered(q, q.corners, q.memory)
 }
 
-/// What a room gives that is not lent: 12, where the bytes can be read.
+/// What a room gives that is not lent: 12, where the bytes can be read, as for a room without answer memory.
 fn refused(q: &Question) -> Told<Answer> {
-    match q.call.answer(&q.given, q.corners, q.memory) {
-        Err(1) => Some(Err(1)),
-        _ => Some(Err(12)),
-    }
+    answered(q, 1, 0)
+}
+
+/// The lines that `solidjob` prints of an answer.
+fn lines(told: Told<Answer>) -> Option<String> {
+    let bodies = match told? {
+        Ok(Answer(bytes)) => Ok(oracle::read_bodies(&bytes)?),
+        Err(number) => Err(u32::try_from(number).ok()?),
+    };
+    Some(oracle::text(&bodies))
 }
 
 /// A question in a room of so many corners.
@@ -130,10 +137,21 @@ impl<'a> Layer<'a> {
 
     /// Each of these in the least room that suffices.
     fn ask_all(&mut self, name: &str, given: impl IntoIterator<Item = (Call, Vec<u8>)>) {
+        self.ask_less(name, 0, given);
+    }
+
+    /// Each of these in a room of so many corners less than would suffice.
+    fn ask_less(
+        &mut self,
+        name: &str,
+        less: usize,
+        given: impl IntoIterator<Item = (Call, Vec<u8>)>,
+    ) {
         let desk = &mut self.desk;
         let questions = given.into_iter().map(|(call, given)| {
             let least = call.least_room(&given).min(MOST_CORNERS);
-            (in_room((call, given), least), Lending::Exact)
+            let corners = least.saturating_sub(less);
+            (in_room((call, given), corners), Lending::Exact)
         });
         let port = |q: &Lent| ours_of(desk, q);
         self.report
@@ -153,6 +171,19 @@ impl<'a> Layer<'a> {
         let port = |q: &Lent| ours_of(desk, q);
         self.report
             .ask_call([self.name, name], questions, port, theirs);
+    }
+
+    /// The lines of the program `solidjob` for 01's pairs.
+    fn ask_lines(&mut self) {
+        let desk = &mut self.desk;
+        let questions = pairs::files().into_iter().map(|(_, job)| job.bytes());
+        let port = |job: &Vec<u8>| {
+            let q = in_room((Call::Fuse, job.clone()), SOLIDJOB_ROOM);
+            lines(ours(desk, &asked(&q, Lending::Exact)))
+        };
+        let name = format!("{}, the lines of solidjob", self.name);
+        let printed = |job: &Vec<u8>| Some(oracle::solidjob(job));
+        self.report.ask(&name, questions, port, printed);
     }
 
     /// So many facets, each with its corners.
@@ -270,13 +301,13 @@ fn in_place(job: &Job, solids: Vec<Solid>) -> Vec<Vec<u8>> {
     solids.into_iter().flat_map(both).collect()
 }
 
-/// Jobs of all families through a call of jobs.
-fn of_jobs(layer: &mut Layer, call: Call) {
+/// Jobs of all families through a call of jobs, so many of a family.
+fn of_jobs(layer: &mut Layer, call: Call, each: usize) {
     let any = |r: &mut Random| (jobs::FAMILIES[r.below(jobs::FAMILIES.len())].make)(r);
     for Family { name, make, fewer } in jobs::FAMILIES {
-        layer.ask(name, EACH / fewer, |r| (call, make(r).bytes()));
+        layer.ask(name, each / fewer, |r| (call, make(r).bytes()));
     }
-    layer.ask("damaged", 4 * EACH, |r| {
+    layer.ask("damaged", 4 * each, |r| {
         let job = any(r);
         (call, damage::any(r, &job))
     });
@@ -285,6 +316,9 @@ fn of_jobs(layer: &mut Layer, call: Call) {
     let bytes: Vec<_> = pairs.iter().map(Job::bytes).collect();
     let lengths = bytes.iter().flat_map(|b| other_lengths(b)).collect();
     layer.ask_all("other lengths", of(lengths));
+    let limits = limits::all().iter().map(Job::bytes).collect();
+    layer.ask_all("the README's limits", of(limits));
+    layer.ask_less("01's pairs, a corner less", 1, of(bytes.clone()));
     layer.ask_all("01's pairs", of(bytes));
     let great = [32_767, 32_768, 32_769, 33_000];
     let great = great.map(|n| damage::sized(&pairs[0], n));
@@ -296,7 +330,7 @@ fn of_jobs(layer: &mut Layer, call: Call) {
     layer.ask_all("other tolerances", of(tolerances.collect()));
     layer.ask_all("counts", of(in_place(&pairs[0], damage::counts())));
     layer.ask_short(|r| (call, any(r).bytes()));
-    layer.ask_together(EACH / 16, |r| (call, any(r).bytes()));
+    layer.ask_together(each / 16, |r| (call, any(r).bytes()));
 }
 
 /// Cells of all families through a call of a cell and a distance or a thickness.
@@ -350,9 +384,23 @@ fn of_cells(layer: &mut Layer, call: fn(f64) -> Call) {
     });
 }
 
+pub fn fuse(report: &mut Report, seed: u64, scale: Scale) {
+    let mut layer = Layer::new(report, "fuse", FUSE, seed, scale);
+    of_jobs(&mut layer, Call::Fuse, EACH_FUSED);
+    layer.ask("many cells", EACH_FUSED / 50, |r| {
+        let faces = r.between(40, 64);
+        (Call::Fuse, jobs::large(r, faces).bytes())
+    });
+    let rare = jobs::rare().map(|(job, _)| (Call::Fuse, job.bytes()));
+    layer.ask_all("what few jobs give", rare);
+    layer.ask_lines();
+    let numbers: Vec<u64> = (0..=22).filter(|&n| n != 8).collect();
+    report.reached("fuse", &numbers);
+}
+
 pub fn cells(report: &mut Report, seed: u64, scale: Scale) {
     let mut layer = Layer::new(report, "cells", CELLS, seed, scale);
-    of_jobs(&mut layer, Call::Cells);
+    of_jobs(&mut layer, Call::Cells, EACH);
     report.reached("cells", &[0, 1, 2, 3, 4, 5, 6, 7, 9, 10, 12]);
 }
 

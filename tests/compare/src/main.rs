@@ -44,7 +44,7 @@ impl Scale {
 type Layer = fn(&mut Report, u64, Scale);
 
 /// Each layer's name, what it asks, and what is added to the seed.
-const LAYERS: [(&str, Layer, u64); 11] = [
+const LAYERS: &[(&str, Layer, u64)] = &[
     ("numbers", numbers::compare, 0),
     ("vectors", vectors::compare, 100),
     ("cutting", cutting::compare, 200),
@@ -55,8 +55,13 @@ const LAYERS: [(&str, Layer, u64); 11] = [
     ("cells", calls::cells, 500),
     ("offset", calls::offset, 600),
     ("hollow", calls::hollow, 700),
+    ("fuse", calls::fuse, 800),
     ("mesh-call", calls::mesh, 900),
 ];
+
+/// The layers of the library's calls, and the fewest calls of a run that is not of one layer.
+const CALLS: [&str; 5] = ["fuse", "cells", "offset", "hollow", "mesh-call"];
+const LEAST_CALLS: usize = 200_000;
 
 fn main() {
     let seed = option("--seed", 1);
@@ -68,12 +73,15 @@ fn main() {
     let only = words.iter().position(|w| w == "--only");
     let only = only.and_then(|i| words.get(i + 1));
     let mut report = Report::default();
-    for (name, compare, more) in LAYERS {
+    for &(name, compare, more) in LAYERS {
         if only.is_none_or(|o| o == name) {
             compare(&mut report, seed + more, scale);
         }
     }
-    if !report.finish() {
+    let calls = report.asked(&CALLS);
+    let wanted = only.map_or(scale.of(LEAST_CALLS), |_| 0);
+    println!("calls of the library: {calls}, at least {wanted}");
+    if !report.finish() || calls < wanted {
         std::process::exit(1);
     }
 }

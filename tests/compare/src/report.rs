@@ -71,6 +71,13 @@ impl Report {
         self.unreached.extend(never);
     }
 
+    /// How many questions were asked of these calls.
+    pub fn asked(&self, calls: &[&str]) -> usize {
+        let of = |name: &str| name.split(", ").next().is_some_and(|n| calls.contains(&n));
+        let lines = self.lines.iter().filter(|l| of(&l.0));
+        lines.map(|l| l.1).sum()
+    }
+
     /// Whether nothing differs, every question was asked and every wanted number answered.
     pub fn finish(self) -> bool {
         let asked: usize = self.lines.iter().map(|l| l.1).sum();

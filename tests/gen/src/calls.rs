@@ -27,8 +27,8 @@ impl fmt::Debug for Question {
     }
 }
 
-/// The greatest room that is lent.
-pub const MOST_CORNERS: usize = 8_192;
+/// The greatest room that is lent: enough for more than 512 cells, and for more than 4,096 points.
+pub const MOST_CORNERS: usize = 32_768;
 
 /// The most bytes of answer memory.
 pub const MOST_MEMORY: usize = CORNER_BYTES * MOST_CORNERS + 8_192;
@@ -41,7 +41,7 @@ fn room(random: &mut Random, call: Call, given: &[u8]) -> usize {
         4 | 5 => least.saturating_sub(1),
         6 => random.between(0, least),
         7 => random.pick(&[0, 1, 23, 24, 720]),
-        8 => random.between(0, MOST_CORNERS / 8),
+        8 => random.between(0, 1_024),
         _ => least + random.below(64),
     };
     room.min(MOST_CORNERS)

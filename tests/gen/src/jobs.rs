@@ -203,7 +203,7 @@ pub fn any(random: &mut Random) -> Job {
     }
 }
 
-pub const FAMILIES: [Family<Job>; 18] = [
+pub const FAMILIES: [Family<Job>; 19] = [
     family("boxes", |r| lattice(r.below(LATTICE)), 1),
     family(
         "prisms",
@@ -233,8 +233,48 @@ pub const FAMILIES: [Family<Job>; 18] = [
     family("boxes far out", wide, 1),
     family("64 faces", corner_of_many, 10),
     family("coarse", coarse, 1),
+    family("local a 16th", sixteenth, 1),
     family("any", any, 4),
 ];
+
+type Make = fn(&mut Random) -> Job;
+
+/// Jobs whose fused call gives a number that few others reach: how one is made, from which seed, and the number.
+const RARE: [(Make, u64, u32); 16] = [
+    (|r| large(r, 64), 0, 11),
+    (sixteenth, 79, 13),
+    (sixteenth, 555, 13),
+    (|_| sliced(), 0, 14),
+    (sixteenth, 661, 15),
+    (sixteenth, 781, 15),
+    (coarse, 18141, 16),
+    (coarse, 31, 17),
+    (coarse, 6697, 17),
+    (sixteenth, 1749, 18),
+    (sixteenth, 90, 19),
+    (sixteenth, 258, 19),
+    (|r| both(r, split_side), 2412, 21),
+    (|r| both(r, split_side), 4077, 21),
+    (|r| both(r, split_side), 4125, 22),
+    (|r| both(r, split_side), 4758, 22),
+];
+
+/// Each of these jobs with its number.
+pub fn rare() -> [(Job, u32); 16] {
+    RARE.map(|(make, seed, number)| (make(&mut Random::new(seed)), number))
+}
+
+/// A tall prism of 62 sides beside a bowl of 61, whose planes cut it one above another: more than 4,096 points in few cells.
+fn sliced() -> Job {
+    let along = |i: usize| 2.0 * i as f64 / 61.0 - 1.0;
+    let profile = |y: f64| (0..62).map(move |i| [along(i), y, along(i) * along(i)]);
+    let bowl = Solid {
+        points: profile(1.0).chain(profile(-1.0)).collect(),
+        faces: prism(62, 1.0, 1.0).faces,
+    };
+    let tall = prism(62, 0.5, 20.0).shifted([4.0, 0.0, -11.0]);
+    Job::usual(tall, bowl, Operation::Union)
+}
 
 /// A small box at a point of a solid of 64 faces: what is left of it may have more.
 fn corner_of_many(random: &mut Random) -> Job {
@@ -274,6 +314,25 @@ fn coarse(random: &mut Random) -> Job {
         first,
         second: second.turned(turn).shifted(by),
         operation: operation(random),
+    }
+}
+
+/// Solids of few faces and the greatest local: fusing merges corners of one cell, and facets meet that should not.
+pub fn sixteenth(random: &mut Random) -> Job {
+    let solids: [fn(&mut Random) -> Solid; 4] = [
+        split_side,
+        split_side,
+        |r| pyramid(r.between(3, 6), 1.0, 1.0 + r.unit()),
+        |r| prism(r.between(3, 5), 1.0, 1.0),
+    ];
+    let solid = random.pick(&solids);
+    let linear = random.pick(&[4, 10, 20, 40]);
+    Job {
+        tolerances: Tolerances {
+            linear: 1.0 / (1u64 << linear) as f64,
+            local: 1.0 / 16.0,
+        },
+        ..both(random, solid)
     }
 }
 

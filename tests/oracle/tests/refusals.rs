@@ -274,6 +274,13 @@ fn each_refusal_of_a_list() {
 }
 
 #[test]
+fn jobs_that_few_others_reach() {
+    for (job, number) in gen::jobs::rare() {
+        assert_eq!(fused(&job), Err(number));
+    }
+}
+
+#[test]
 fn twenty_four_to_twenty_seven_for_offsets() {
     let mut random = Random::new(24);
     assert_eq!(offset(&gen::solid::ball(&mut random, 12), 0.1), Err(24));

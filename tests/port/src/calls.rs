@@ -69,6 +69,30 @@ macro_rules! entry {
     };
 }
 
+entry!(FUSE = solid_fuse() {
+    rest: f64 = 3 * corners + 1920,
+    spare: f64 = 10 * corners + 1536,
+    dst: f64 = 10 * corners + 1536,
+    held: u64 = 1 * corners + 128,
+    slots: u64 = 1 * corners + 128,
+    counts: u64 = 1 * corners + 128,
+    sizes: u64 = 1 * corners + 1,
+    seats: u64 = 1 * corners + 1,
+    lengths: u64 = 1 * corners + 0,
+    owners: u64 = 1 * corners + 0,
+    cells: u64 = 1 * corners + 0,
+    cuts: u64 = 1 * corners + 1,
+    runs: u64 = 3 * corners + 0,
+    keys: u64 = 2 * corners + 0,
+    begins: u64 = 1 * corners + 1,
+    ord: u64 = 1 * corners + 0,
+    ends: u64 = 1 * corners + 0,
+    marks: u64 = 1 * corners + 1,
+    out: u64 = 1 * corners + 0,
+    many: u64 = 1 * corners + 0,
+    shells: u64 = 1 * corners + 0,
+});
+
 entry!(CELLS = solid_cells() {
     rest: f64 = 3 * corners + 1920,
     spare: f64 = 3 * corners + 1536,
