@@ -83,13 +83,16 @@ fn each_number(report: &mut Report, fuser: &mut Fuser) {
     asked(report, fuser, "a list for each number", each);
 }
 
+/// A list with one change.
+pub fn with(list: &Given, change: fn(&mut Given)) -> Given {
+    let mut list = list.clone();
+    change(&mut list);
+    list
+}
+
 /// Slices that are none of this list, each for one reason.
 fn wrong(list: &Given) -> Vec<Given> {
-    let changed = |change: fn(&mut Given)| {
-        let mut list = list.clone();
-        change(&mut list);
-        list
-    };
+    let changed = |change| with(list, change);
     vec![
         changed(|l| l.room = ROOM + 1),
         changed(|l| l.cells += 1),

@@ -1,6 +1,6 @@
 //! `split_cells` of lists of cells: the number, every bit of the parts, and that all else is as it was.
 use crate::bits::bits;
-use crate::fusing::given;
+use crate::fusing::{given, with};
 use crate::report::{Report, Told};
 use crate::Scale;
 use gen::family::Family;
@@ -77,11 +77,7 @@ pub fn compare(report: &mut Report, seed: u64, scale: Scale) {
 
 /// Slices that are none of this list, each for one reason.
 fn wrong(list: &Given) -> Vec<Given> {
-    let changed = |change: fn(&mut Given)| {
-        let mut list = list.clone();
-        change(&mut list);
-        list
-    };
+    let changed = |change| with(list, change);
     vec![
         changed(|l| l.room = port::splitting::ROOM + 1),
         changed(|l| l.cells = l.room + 2),
