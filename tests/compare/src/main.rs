@@ -13,6 +13,8 @@ mod splitting;
 mod vectors;
 
 use report::Report;
+use std::sync::atomic::{AtomicUsize, Ordering};
+use std::thread;
 
 fn option(name: &str, default: u64) -> u64 {
     let words: Vec<_> = std::env::args().collect();
@@ -63,6 +65,34 @@ const LAYERS: &[(&str, Layer, u64)] = &[
 const CALLS: [&str; 5] = ["fuse", "cells", "offset", "hollow", "mesh-call"];
 const LEAST_CALLS: usize = 200_000;
 
+/// The reports of these layers as one, in their order; as many layers at once as there are processors, the last begun first.
+fn together(layers: &[(&str, Layer, u64)], seed: u64, scale: Scale) -> Report {
+    let left = AtomicUsize::new(layers.len());
+    let take = || {
+        left.fetch_update(Ordering::Relaxed, Ordering::Relaxed, |n| n.checked_sub(1))
+            .ok()
+    };
+    let work = || {
+        let of = |at: usize| {
+            let (_, compare, more) = layers[at - 1];
+            let mut report = Report::default();
+            compare(&mut report, seed + more, scale);
+            (at, report)
+        };
+        std::iter::from_fn(take).map(of).collect::<Vec<_>>()
+    };
+    let mut reports = thread::scope(|scope| {
+        let count = thread::available_parallelism().map_or(1, |n| n.get());
+        let threads: Vec<_> = (0..count).map(|_| scope.spawn(work)).collect();
+        let joined = threads.into_iter().map(|t| t.join().expect("a layer ends"));
+        joined.flatten().collect::<Vec<_>>()
+    });
+    reports.sort_by_key(|r| r.0);
+    let mut all = Report::default();
+    reports.into_iter().for_each(|(_, report)| all.join(report));
+    all
+}
+
 fn main() {
     let seed = option("--seed", 1);
     let scale = Scale {
@@ -72,12 +102,9 @@ fn main() {
     let words: Vec<_> = std::env::args().collect();
     let only = words.iter().position(|w| w == "--only");
     let only = only.and_then(|i| words.get(i + 1));
-    let mut report = Report::default();
-    for &(name, compare, more) in LAYERS {
-        if only.is_none_or(|o| o == name) {
-            compare(&mut report, seed + more, scale);
-        }
-    }
+    let asked = |layer: &&(&str, Layer, u64)| only.is_none_or(|o| o == layer.0);
+    let layers: Vec<_> = LAYERS.iter().filter(asked).copied().collect();
+    let report = together(&layers, seed, scale);
     let calls = report.asked(&CALLS);
     let wanted = only.map_or(scale.of(LEAST_CALLS), |_| 0);
     println!("calls of the library: {calls}, at least {wanted}");

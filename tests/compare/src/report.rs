@@ -71,6 +71,15 @@ impl Report {
         self.unreached.extend(never);
     }
 
+    /// What another report tells is told too.
+    pub fn join(&mut self, other: Report) {
+        self.lines.extend(other.lines);
+        self.unreached.extend(other.unreached);
+        for (of, times) in other.numbers {
+            *self.numbers.entry(of).or_default() += times;
+        }
+    }
+
     /// How many questions were asked of these calls.
     pub fn asked(&self, calls: &[&str]) -> usize {
         let of = |name: &str| name.split(", ").next().is_some_and(|n| calls.contains(&n));
