@@ -14,14 +14,8 @@ use Rattle.refusal.specs.declared.Verdict.{Verdict}
 use Rattle.refusal.specs.declared.Verdict.the-variants.{Fine, Refused}
 use Rattle.refusal.specs.Outcome.{Outcome, ok, refused, refusalOf, then, unless, walk, heard}
 use Rattle.space.specs.Shapes.{Face, Cell, corners}
-use Rattle.space.specs.declared.Point3.{Point3}
-use Rattle.space.specs.declared.Plane.{Plane}
-use Rattle.polygon.specs.declared.Polygon.{Polygon}
-use Rattle.polygon.specs.Polygons.{cornersOf, polygon}
-use Rattle.polygon.specs.Memory.{pointsAt}
-use Rattle.polygon.specs.Laws.{corners-polygon}
 use Rattle.polygon.specs.Members.{All}
-use Rattle.room.specs.Rooms.{planeAt, faceFloats, cellFloats, cellCounts, faceAt, cellAt, countsAt, Within, Small}
+use Rattle.room.specs.Rooms.{faceFloats, cellFloats, cellCounts, faceAt, cellAt, countsAt, Within, Small}
 use Rattle.room.specs.Laws.{corners-snoc, floats-more, counts-more, all-snoc, next-count, counts-done, cell-next, cell-none, within-small, within-rest, within-le}
 use Rattle.room.specs.Steps.{onward, onward-next, onward-end}
 use Rattle.cell.specs.declared.Kept.{Kept}
@@ -210,25 +204,20 @@ copying-start room src from ns j faces d at n k h = record {
   rest = refl;
 }
 
-pub copying-step : (room : ℕ) (src : List Float) (from : ℕ) (ns : List ℕ) (j faces : ℕ) (d₀ : List Float) (at : ℕ) (n₀ : List ℕ) (k : ℕ) (s r : Kept) (d : List Float) (n : List ℕ) (d′ : List Float) (n′ : List ℕ) (o i : ℕ) (w : Plane) (p : Polygon) →
-    j + faces ≤ length ns → i < faces → w ≡ planeAt src o → p ≡ polygon (pointsAt src (o + 12) (getD ns (j + i) 0)) →
-    Turned room at k (λ c. addFace room c (record { plane = w; points = cornersOf p })) s r d n d′ n′ → length d′ ≡ length d → length n′ ≡ length n →
+pub copying-step : (room : ℕ) (src : List Float) (from : ℕ) (ns : List ℕ) (j faces : ℕ) (d₀ : List Float) (at : ℕ) (n₀ : List ℕ) (k : ℕ) (s r : Kept) (d : List Float) (n : List ℕ) (d′ : List Float) (n′ : List ℕ) (o i : ℕ) →
+    j + faces ≤ length ns → i < faces →
+    Turned room at k (λ c. addFace room c (faceAt src o (getD ns (j + i) 0))) s r d n d′ n′ → length d′ ≡ length d → length n′ ≡ length n →
     Copying room src from ns j faces d₀ at n₀ k s d n o i → Copying room src from ns j faces d₀ at n₀ k r d′ n′ (o + 12 + 3 * getD ns (j + i) 0) (i + 1)
-copying-step room src from ns j faces d₀ at n₀ k s r d n d′ n′ o i w p listed h ew ep t ld ln c =
-    let m = getD ns (j + i) 0 in
+copying-step room src from ns j faces d₀ at n₀ k s r d n d′ n′ o i listed h t ld ln c =
     let l = cellAt src (o + 12 + 3 * getD ns (j + i) 0) (drop (i + 1) (countsAt ns j faces)) in
-    let q : _≡_ {A = Face} (record { plane = w; points = cornersOf p }) (faceAt src o (getD ns (j + i) 0)) =
-    ap {B = Face} (λ x. record { plane = x; points = cornersOf p }) ew
-    ∙ ap {B = Face} (λ x. record { plane = planeAt src o; points = x }) (ap cornersOf ep ∙ corners-polygon (pointsAt src (o + 12) (getD ns (j + i) 0))) in
-    let g = subst (λ x. Turned room at k (λ y. addFace room y x) s r d n d′ n′) q t in
     record {
       ahead = ahead-next src ns j faces o i listed h (c .ahead);
-      few = g .few;
-      fit = g .fit;
+      few = t .few;
+      fit = t .fit;
       size = ld ∙ c .size;
       slots = ln ∙ c .slots;
       out = then (c .out) (λ y. addFace room y (faceAt src o (getD ns (j + i) 0)));
-      stored = g .on d₀ n₀ (c .out) (c .stored);
+      stored = t .on d₀ n₀ (c .out) (c .stored);
       rest = onward-next (addFace room) (c .out) (faceAt src o (getD ns (j + i) 0)) l ∙ ap (onward (addFace room) (c .out)) (sym (ahead-face src ns j faces o i listed h (c .ahead))) ∙ c .rest;
     }
 
@@ -237,10 +226,3 @@ pub copying-end : (room : ℕ) (src : List Float) (from : ℕ) (ns : List ℕ) (
 copying-end room src from ns j faces d₀ at n₀ k s d n o i h c =
     subst (λ x. Stored d₀ at n₀ k x s d n)
     (sym (onward-end (addFace room) (c .out)) ∙ ap (onward (addFace room) (c .out)) (sym (ahead-done src ns j faces o i h)) ∙ c .rest) (c .stored)
-
--- a polygon of a list of corners has as many corners as it says
-pub drawn : (p : Polygon) (l : List Point3) → p ≡ polygon l → length l ≤ 128 → (p .n ≤ 128) × (p .n ≡ length (cornersOf p))
-drawn p l e h =
-    let a : p .n ≡ length l = ap (λ x. x .n) e in
-    let b : length (cornersOf p) ≡ length l = ap length (ap cornersOf e ∙ corners-polygon l) in
-    (omega arith, omega arith)

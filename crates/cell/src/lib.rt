@@ -8,7 +8,7 @@ ghost use Prim.Native.Nat.{_+_, _*_, _≤_, _<_};
 ghost use lib.ListN.{length};
 ghost use lib.Dec.{ltb};
 ghost use Rattle.polygon.specs.Polygons.{cornersOf};
-ghost use Rattle.room.specs.Rooms.{cellAt, countsAt};
+ghost use Rattle.room.specs.Rooms.{faceAt, cellAt, countsAt};
 ghost use Rattle.cell.specs.Cells.{isFull, addFace, keepFace, leftCell, Stored, Fits, Turned, Ready};
 
 // How many faces and corners the cell has.
@@ -84,6 +84,44 @@ pub fn keep_face(
     add_face(limit, dst, at, counts, k, s, w, p)
 }
 
+// One face more, of n corners, as it stands in another room from `o` on: no record is made of it.
+fn copy_face(
+    limit: usize,
+    src: &[f64],
+    o: usize,
+    n: usize,
+    dst: &mut [f64],
+    at: usize,
+    counts: &mut [u64],
+    k: usize,
+    s: Kept,
+) -> Kept
+    requires { ⌜ Fits limit s (now dst) at (now counts) k ⌝ }
+    requires { ⌜ (n ≤ 128) × (o + 12 + 3 * n ≤ length (now src)) ⌝ }
+    ensures { λ r. ⌜ Turned limit at k (λ c. addFace limit c (faceAt (now (src .entry)) o n)) s r (now (dst .entry)) (now (counts .entry)) (now (dst .exit)) (now (counts .exit)) ⌝ }
+{
+    let v = s.verdict;
+    let faces = s.faces;
+    let old = s.corners;
+    let Verdict::Fine = v else {
+        return s;
+    };
+    if is_full(limit, faces, old, n) {
+        let r = refusal::refuse(12);
+        return Kept {
+            verdict: Verdict::Refused(r),
+            faces,
+            corners: old,
+        };
+    }
+    room::copy_face(src, o, n, dst, counts, at + 12 * faces + 3 * old, k + faces);
+    Kept {
+        verdict: v,
+        faces: faces + 1,
+        corners: old + n,
+    }
+}
+
 // A whole cell of another room: its floats stand from `from` on, its faces' numbers of corners from `j` on.
 pub fn left_cell(
     limit: usize,
@@ -109,9 +147,7 @@ pub fn left_cell(
     let mut i = 0;
     while i < faces {
         let n = sizes[j + i] as usize;
-        let w = room::get_plane(src, o);
-        let p = room::get_points(src, o + 12, n);
-        s = add_face(limit, dst, at, counts, k, s, w, p);
+        s = copy_face(limit, src, o, n, dst, at, counts, k, s);
         o = o + 12 + 3 * n;
         i += 1;
     }

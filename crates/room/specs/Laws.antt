@@ -288,36 +288,6 @@ cell-stored d at c h =
     sets-eq (cellFloats c) d at h ∙ append-assoc (take at d) (cellFloats c) (drop (at + length (cellFloats c)) d) in
     ap (λ m. cellAt m at (cellCounts c)) e ∙ cell-back (take at d) c (drop (at + length (cellFloats c)) d) at k
 
--- ---- the filling of a polygon from a slice
-
-pub record Filling (s : List Float) (at n : ℕ) (a : List Point3) (i o : ℕ) : Type 0 where
-  pub upto : i ≤ n
-  pub place : o ≡ at + 3 * i
-  pub is : a ≡ padded (take i (pointsAt s at n))
-
-pub filling-step : (s : List Float) (at n : ℕ) (a : List Point3) (i o : ℕ) (q : Point3) → n ≤ 128 → i < n → q ≡ pointAt s o →
-    Filling s at n a i o → Filling s at n (set a i q) (i + 1) (o + 3)
-filling-step s at n a i o q h k e f =
-    let l = pointsAt s at n in
-    let m : i < length (pointsAt s at n) = omega (arith, length-pointsAt s at n) in
-    let g : length (take i (pointsAt s at n)) ≡ i = length-take i (pointsAt s at n) ∙ omega arith in
-    let w : q ≡ getD (pointsAt s at n) i origin = e ∙ ap (pointAt s) (f .place) ∙ sym (point-of s at n i origin k) in
-    let b : length (take i (pointsAt s at n)) < 128 = omega arith in
-    record {
-      upto = omega arith;
-      place = omega (arith, f .place);
-      is = ap (λ x. set x i q) (f .is) ∙ ap (λ j. set (padded (take i (pointsAt s at n))) j q) (sym g)
-          ∙ pad-set (take i (pointsAt s at n)) 128 origin q b
-          ∙ ap (λ x. padded (take i (pointsAt s at n) ++ (x ∷ []))) w
-          ∙ ap padded (sym (take-suc (pointsAt s at n) i origin m) ∙ ap (λ j. take j (pointsAt s at n)) (sym (add-one i)));
-    }
-
-pub filling-end : (s : List Float) (at n : ℕ) (a : List Point3) (i o : ℕ) → n ≤ i → Filling s at n a i o → _≡_ {A = Polygon} (record { at = a; n = n }) (polygon (pointsAt s at n))
-filling-end s at n a i o h f =
-    let k : length (pointsAt s at n) ≤ i = omega (arith, length-pointsAt s at n) in
-    let e : a ≡ padded (pointsAt s at n) = f .is ∙ ap padded (take-all i (pointsAt s at n) k) in
-    ap {B = Polygon} (λ x. record { at = x; n = n }) e ∙ ap {B = Polygon} (λ m. record { at = padded (pointsAt s at n); n = m }) (sym (length-pointsAt s at n))
-
 -- ---- one point more at the front of a slice
 
 getD-sets-before : (s : List Float) (i j : ℕ) (vs : List Float) (d : Float) → j < i → getD (sets s i vs) j d ≡ getD s j d

@@ -8,9 +8,9 @@ ghost use Prim.Native.Nat.{_+_, _*_, _≤_, _<_};
 ghost use lib.ListN.{length, set, replicate};
 ghost use lib.Seq.{sets};
 ghost use lib.Ieee.{binary64, ofBits};
-ghost use Rattle.polygon.specs.Polygons.{cornersOf, polygon};
+ghost use Rattle.polygon.specs.Polygons.{cornersOf};
 ghost use Rattle.polygon.specs.Memory.{floatsOf, pointsAt};
-ghost use Rattle.room.specs.Rooms.{planeFloats, planeAt, faceFloats};
+ghost use Rattle.room.specs.Rooms.{planeFloats, planeAt, faceFloats, faceAt};
 
 pub fn put_points(s: &mut [f64], at: usize, p: Polygon)
     requires { ⌜ (p .n ≤ 128) × (at + 3 * p .n ≤ length (now s)) ⌝ }
@@ -25,23 +25,6 @@ pub fn put_points(s: &mut [f64], at: usize, p: Polygon)
         o += 3;
         i += 1;
     }
-}
-
-pub fn get_points(s: &[f64], at: usize, n: usize) -> Polygon
-    requires { ⌜ (n ≤ 128) × (at + 3 * n ≤ length (now s)) ⌝ }
-    ensures { λ r. ⌜ r ≡ polygon (pointsAt (now (s .entry)) at n) ⌝ }
-{
-    let mut out = polygon::empty();
-    let mut i = 0;
-    let mut o = at;
-    while i < n {
-        let q = polygon::get_point(s, o);
-        out.at[i] = q;
-        o += 3;
-        i += 1;
-    }
-    out.n = n;
-    out
 }
 
 pub fn put_plane(s: &mut [f64], at: usize, w: Plane)
@@ -81,6 +64,43 @@ pub fn put_face(s: &mut [f64], counts: &mut [u64], at: usize, k: usize, w: Plane
     put_plane(s, at, w);
     put_points(s, at + 12, p);
     counts[k] = n as u64;
+}
+
+// The n corners that stand in `src` from `from` on.
+fn copy_points(src: &[f64], from: usize, n: usize, s: &mut [f64], at: usize)
+    requires { ⌜ (from + 3 * n ≤ length (now src)) × (at + 3 * n ≤ length (now s)) ⌝ }
+    ensures { λ _. ⌜ now (s .exit) ≡ sets (now (s .entry)) at (floatsOf (pointsAt (now (src .entry)) from n)) ⌝ }
+{
+    let mut i = 0;
+    let mut p = from;
+    let mut o = at;
+    while i < n {
+        let q = polygon::get_point(src, p);
+        polygon::put_point(s, o, q);
+        p += 3;
+        o += 3;
+        i += 1;
+    }
+}
+
+// A face of m corners that stands in `src` from `from` on is stored in the same way.
+pub fn copy_face(
+    src: &[f64],
+    from: usize,
+    m: usize,
+    s: &mut [f64],
+    counts: &mut [u64],
+    at: usize,
+    k: usize,
+)
+    requires { ⌜ (from + 12 + 3 * m ≤ length (now src)) × (at + 12 + 3 * m ≤ length (now s)) × (k < length (now counts)) ⌝ }
+    ensures { λ _. ⌜ now (s .exit) ≡ sets (now (s .entry)) at (faceFloats (faceAt (now (src .entry)) from m)) ⌝ }
+    ensures { λ _. ⌜ now (counts .exit) ≡ set (now (counts .entry)) k m ⌝ }
+{
+    let w = get_plane(src, from);
+    put_plane(s, at, w);
+    copy_points(src, from + 12, m, s, at + 12);
+    counts[k] = m as u64;
 }
 
 pub fn zero(s: &mut [f64])

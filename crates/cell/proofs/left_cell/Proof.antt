@@ -1,9 +1,7 @@
 use Prim.Native.Nat.{ℕ, _+_, _-_, _*_, _≤_, _<_}
 use native.Mathlib.Omega.{arith}
 use lib.ListN.{length, getD}
-use Rattle.polygon.specs.Memory.{pointsAt}
-use Rattle.room.specs.Laws.{length-pointsAt}
-use Rattle.cell.specs.Laws.{Copying, copying-start, copying-step, copying-end, ahead-small, ahead-inside, drawn}
+use Rattle.cell.specs.Laws.{Copying, copying-start, copying-step, copying-end, ahead-small, ahead-inside}
 use borrow.Author.Needs.{needs}
 use Rattle.cell.proofs.left_cell.Statement.{statement}
 use Rattle.cell.proofs.left_cell.Tie as tie
@@ -36,20 +34,9 @@ mul-n c = search needs
 shared-slice-read-n : tie.Need-shared-slice-read-n Inv-loop μ-loop
 shared-slice-read-n c = search needs
 
-get-plane-requires : tie.Need-get-plane-requires Inv-loop μ-loop
-get-plane-requires c κs = omega (arith, inside (c .before))
-
-add-get-points : tie.Need-add-get-points Inv-loop μ-loop
-add-get-points c =
-    omega (arith, inside (c .before .before), c .before .before .before .before .before .before .before .before .good)
-
-get-points-requires : tie.Need-get-points-requires Inv-loop μ-loop
-get-points-requires c κs = (small (c .before .before), inside (c .before .before))
-
-add-face-requires : tie.Need-add-face-requires Inv-loop μ-loop
-add-face-requires c κs =
-    let G = c .before .before in
-    let T = G .before .before .before in
+copy-face-requires : tie.Need-copy-face-requires Inv-loop μ-loop
+copy-face-requires c κs =
+    let T = c .before .before .before in
     let L = T .before in
     let S = L .before .before .before .before .before in (
       record {
@@ -58,20 +45,20 @@ add-face-requires c κs =
         place = omega (arith, S .pre .place, L .loop .inv .size);
         slots = omega (arith, S .pre .slots, L .loop .inv .slots);
       },
-      drawn (G .get-points .result) (pointsAt (S .args .src .now) (L .loop .o + 12) (size T)) (G .get-points .ensures) (omega (arith, length-pointsAt (S .args .src .now) (L .loop .o + 12) (size T), small T)),
+      (small T, inside T),
     )
 
 add-o : tie.Need-add-o Inv-loop μ-loop
-add-o c = omega (arith, inside (c .before .before .before .before .before .before .before .before .before .before), c .before .before .before .before .before .before .before .before .before .before .before .before .before .before .before .before .good)
+add-o c = omega (arith, inside (c .before .before .before .before .before .before .before .before), c .before .before .before .before .before .before .before .before .before .before .before .before .before .before .good)
 
 mul-o : tie.Need-mul-o Inv-loop μ-loop
-mul-o c = omega (arith, inside (c .before .before .before .before .before .before .before .before .before .before), c .before .before .before .before .before .before .before .before .before .before .before .before .before .before .before .before .good)
+mul-o c = omega (arith, inside (c .before .before .before .before .before .before .before .before), c .before .before .before .before .before .before .before .before .before .before .before .before .before .before .good)
 
 add-o-2 : tie.Need-add-o-2 Inv-loop μ-loop
-add-o-2 c = omega (arith, inside (c .before .before .before .before .before .before .before .before .before .before), c .before .before .before .before .before .before .before .before .before .before .before .before .before .before .before .before .good)
+add-o-2 c = omega (arith, inside (c .before .before .before .before .before .before .before .before), c .before .before .before .before .before .before .before .before .before .before .before .before .before .before .good)
 
 add-i : tie.Need-add-i Inv-loop μ-loop
-add-i c = omega (arith, c .before .before .before .before .before .before .before .before .before .before .loop-test .taken, c .before .before .before .before .before .before .before .before .before .before .before .before .before .before .before .before .good)
+add-i c = omega (arith, c .before .before .before .before .before .before .before .before .loop-test .taken, c .before .before .before .before .before .before .before .before .before .before .before .before .before .before .good)
 
 loop-less : tie.Need-loop-less Inv-loop μ-loop
 loop-less c = search needs
@@ -79,11 +66,10 @@ loop-less c = search needs
 loop-again : tie.Need-loop-again Inv-loop μ-loop
 loop-again c =
     let F = c .before .before .before .before in
-    let G = F .before .before .before in
-    let T = G .before .before .before in
+    let T = F .before .before .before .before in
     let L = T .before in
     let S = L .before .before .before .before .before in
-    copying-step _ _ _ _ _ _ _ _ _ _ _ _ _ _ _ _ _ _ _ _ (S .pre .listed) (T .loop-test .taken) (G .before .get-plane .ensures) (G .get-points .ensures) (F .add-face .ensures) (F .add-face .kept .1 .0) (F .add-face .kept .1 .1 .1 .0) (L .loop .inv)
+    copying-step _ _ _ _ _ _ _ _ _ _ _ _ _ _ _ _ _ _ (S .pre .listed) (T .loop-test .taken) (F .copy-face .ensures) (F .copy-face .kept .1 .1 .1 .1 .0) (F .copy-face .kept .1 .1 .1 .1 .1 .1 .0) (L .loop .inv)
 
 same-length : tie.Need-same-length Inv-loop μ-loop
 same-length c = search needs
@@ -104,10 +90,7 @@ left-cell-spec =
     add-n
     mul-n
     shared-slice-read-n
-    get-plane-requires
-    add-get-points
-    get-points-requires
-    add-face-requires
+    copy-face-requires
     add-o
     mul-o
     add-o-2
