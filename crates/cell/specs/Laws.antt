@@ -15,7 +15,7 @@ use Rattle.refusal.specs.declared.Verdict.the-variants.{Fine, Refused}
 use Rattle.refusal.specs.Outcome.{Outcome, ok, refused, refusalOf, then, unless, walk, heard}
 use Rattle.space.specs.Shapes.{Face, Cell, corners}
 use Rattle.polygon.specs.Members.{All}
-use Rattle.room.specs.Rooms.{faceFloats, cellFloats, cellCounts, faceAt, cellAt, countsAt, Within, Small}
+use Rattle.room.specs.Rooms.{faceFloats, cellFloats, cellCounts, faceAt, cellAt, countsAt, Within}
 use Rattle.room.specs.Laws.{corners-snoc, floats-more, counts-more, all-snoc, next-count, counts-done, cell-next, cell-none, within-small, within-rest, within-le}
 use Rattle.room.specs.Steps.{onward, onward-next, onward-end}
 use Rattle.cell.specs.declared.Kept.{Kept}

@@ -7,7 +7,7 @@ use native.Mathlib.Omega.{arith}
 use native.Mathlib.Nat.{not-suc-le-zero, le-of-suc-le-suc, add-zero, mod-lt}
 use native.Mathlib.Numerals.{add-one, add-three}
 use lib.ListN.{length, take, drop, getD, set, replicate, length-append, length-drop, length-take, drop-of-length-le}
-use lib.Seq.{sets, sets-eq, length-sets, drop-cons, take-suc, take-all, getD-append-add, getD-drop, getD-set-other}
+use lib.Seq.{sets, sets-eq, drop-cons, getD-append-add, getD-drop, getD-set-other}
 use lib.Ieee.{Float, nan}
 use Rattle.space.specs.declared.Point3.{Point3}
 use Rattle.space.specs.declared.Frame.{Frame}
@@ -15,9 +15,9 @@ use Rattle.space.specs.declared.Plane.{Plane}
 use Rattle.space.specs.Shapes.{Face, Cell, corners}
 use Rattle.space.specs.Vector.{origin}
 use Rattle.lists.specs.Walks.{Pair, cyclic}
-use Rattle.lists.specs.Laws.{next, done, pad-set, next-pair, length-cyclic}
+use Rattle.lists.specs.Laws.{next, done, next-pair, length-cyclic}
 use Rattle.polygon.specs.declared.Polygon.{Polygon}
-use Rattle.polygon.specs.Polygons.{padded, polygon}
+use Rattle.polygon.specs.Polygons.{polygon}
 use Rattle.polygon.specs.Memory.{floats, floatsOf, pointAt, pointsAt}
 use Rattle.polygon.specs.Members.{All}
 use Rattle.room.specs.Rooms.{planeFloats, planeAt, faceFloats, cellFloats, cellCounts, faceAt, cellAt, countsAt, Within, In, Small}
