@@ -5,6 +5,7 @@ use refusal::Refusal;
 use space::Point3;
 use space::Precision;
 ghost use mathlib.Core.Path.{_≡_};
+ghost use Rattle.interval.specs.Box.{dotI};
 ghost use Rattle.incidence.specs.Incidence.{surely, squares, marginOf, lineOn, lineOf, isCollapsed, judged, beside, isBehindStart, isBeforeEnd, beforeEnd, incidenceOn, incidenceOf};
 
 // An edge: its start, its vector, its squared length, linear times its rounded length, and local² times its squared length.
@@ -140,11 +141,21 @@ fn incidence_on(e: Line, delta: [Interval; 3], w: Interval) -> Incidence
     Incidence::Passed
 }
 
+// The dot product, for most of what a fusing does: `interval::dot`, which others call too, stays a function whose arrays lie in memory.
+fn projection(d: [Interval; 3], e: [Interval; 3]) -> Interval
+    ensures { λ r. ⌜ r ≡ dotI d e ⌝ }
+{
+    interval::add(
+        interval::add(interval::mul(d[0], e[0]), interval::mul(d[1], e[1])),
+        interval::mul(d[2], e[2]),
+    )
+}
+
 pub fn incidence_of(e: Line, q: Point3) -> Incidence
     ensures { λ r. ⌜ r ≡ incidenceOf e q ⌝ }
 {
     let origin = e.origin;
     let edge = e.edge;
     let delta = interval::difference(space::coordinates(q), origin);
-    incidence_on(e, delta, interval::dot(delta, edge))
+    incidence_on(e, delta, projection(delta, edge))
 }

@@ -92,9 +92,7 @@ fn number_by(v: Verdict) -> u64
 }
 
 // Room for what is printed: 14 bytes for each of an answer's 46,080, and 100.
-fn page() -> [u8; 645220]
-    ensures { λ r. ⌜ 645220 ≡ length r ⌝ }
-{
+fn page() -> [u8; 645220] {
     [0; 645220]
 }
 
