@@ -8,10 +8,9 @@ use lib.ListN.{length, take}
 use lib.Seq.{sets, length-sets, length-take-le, sets-eq, take-at}
 use Rattle.io.specs.Counts.{Counts}
 use Rattle.refusal.specs.declared.Refusal.{Refusal}
-use Rattle.refusal.specs.declared.Verdict.{Verdict}
-use Rattle.refusal.specs.declared.Verdict.the-variants.{Fine, Refused}
 use Rattle.refusal.specs.Outcome.{Outcome, ok, refused}
 use Rattle.space.specs.Shapes.{Face}
+use Rattle.lent.specs.Lent.{numberBy}
 use Rattle.ended.specs.declared.Ended.{Ended}
 use Rattle.ended.specs.Ends.{stopped, endedOf, written}
 use Rattle.job.specs.declared.Layout.{Layout}
@@ -26,10 +25,6 @@ use Rattle.lines.specs.Bodies.{fusedLines, lines-bodies}
 use Rattle.fuse_call.specs.Calls.{fuseLaid}
 use Rattle.fuse_served.specs.Entry.{fuseEntry}
 use Rattle.fuse_served.specs.Laws.{entry-opened, entry-made, entry-refused}
-
-unfoldable pub numberBy : Verdict → ℕ
-numberBy Fine = 0
-numberBy (Refused r) = r .number
 
 -- "A refusal prints the first line alone, with its number"
 unfoldable pub printed : Outcome (List ℕ) → List ℕ
