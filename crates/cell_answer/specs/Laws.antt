@@ -26,8 +26,9 @@ use Rattle.answer.specs.Answers.{faceAnswer, solidAnswer}
 use Rattle.answer.specs.Laws.{length-count, length-faceAnswer}
 use Rattle.finish.specs.Finish.{total, solidsFloats, solidsPlaces, solidsCounts, solidsAt, solidsTold, Lain, Holding}
 use Rattle.finish.specs.Lists.{total-flat, points-both, places-both, faces-both, points-more, places-more, faces-more, this-size, this-mark, this-points, this-places, this-counts, solid-back}
-use Rattle.cell_answer.specs.declared.Ended.{Ended}
-use Rattle.cell_answer.specs.Ending.{solidsAnswer, endedOf, written}
+use Rattle.ended.specs.declared.Ended.{Ended}
+use Rattle.ended.specs.Ends.{endedOf, written}
+use Rattle.cell_answer.specs.Solids.{solidsAnswer}
 
 -- ---- how many bytes there are
 
@@ -281,15 +282,15 @@ module _ (room k : ℕ) (v : Verdict) (P : List Float) (I C z m : List ℕ) (H :
   tells-many e = tells-lain e .many
 
   pub ended-before : (r : Refusal) (out : List ℕ) → v ≡ D.Refused r →
-      (_≡_ {A = Ended} (record { verdict = v; bytes = 0 }) (endedOf (then (solidsTold v k P I C z m) solidsAnswer))) × (out ≡ written (then (solidsTold v k P I C z m) solidsAnswer) out)
+      ((_≡_ {A = Ended} (record { verdict = v; bytes = 0 }) (endedOf (then (solidsTold v k P I C z m) solidsAnswer))) × (0 ≤ 32 * room)) × (out ≡ written (then (solidsTold v k P I C z m) solidsAnswer) out)
   unfolding solidsTold heard endedOf written
   ended-before r out e =
       let o : then (solidsTold v k P I C z m) solidsAnswer ≡ refused r = ap (λ v. then (heard v (solidsAt P I C (take k m) (take k z))) solidsAnswer) e in
-      (ap (λ v. record { verdict = v; bytes = 0 }) e ∙ ap endedOf (sym o), ap (λ o. written o out) (sym o))
+      ((ap (λ v. record { verdict = v; bytes = 0 }) e ∙ ap endedOf (sym o), omega arith), ap (λ o. written o out) (sym o))
 
   pub ended-end : v ≡ D.Fine → (out₀ out : List ℕ) (at : ℕ) → (at ≡ length (row solidAnswer (solidsAt P I C (take k m) (take k z)))) × (out ≡ sets out₀ 0 (row solidAnswer (solidsAt P I C (take k m) (take k z)))) →
-      (_≡_ {A = Ended} (record { verdict = D.Fine; bytes = at }) (endedOf (then (solidsTold v k P I C z m) solidsAnswer))) × (out ≡ written (then (solidsTold v k P I C z m) solidsAnswer) out₀)
+      ((_≡_ {A = Ended} (record { verdict = D.Fine; bytes = at }) (endedOf (then (solidsTold v k P I C z m) solidsAnswer))) × (at ≤ 32 * room)) × (out ≡ written (then (solidsTold v k P I C z m) solidsAnswer) out₀)
   unfolding solidsAnswer endedOf written
   ended-end e out₀ out at h =
       let o : then (solidsTold v k P I C z m) solidsAnswer ≡ ok (row solidAnswer (solidsAt P I C (take k m) (take k z))) = ap (λ o. then o solidsAnswer) (tells e) in
-      (ap (λ n. record { verdict = D.Fine; bytes = n }) (h .0) ∙ ap endedOf (sym o), h .1 ∙ ap (λ o. written o out₀) (sym o))
+      ((ap (λ n. record { verdict = D.Fine; bytes = n }) (h .0) ∙ ap endedOf (sym o), omega (arith, h .0, solids-fit _ _ _ _ _ _ _ _ (tells-lain e))), h .1 ∙ ap (λ o. written o out₀) (sym o))

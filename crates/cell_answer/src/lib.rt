@@ -1,17 +1,13 @@
 // The bytes of the solids of a list of cells, one after another.
+use ended::Ended;
 use refusal::Verdict;
 ghost use mathlib.Core.Path.{_≡_};
 ghost use Prim.Native.Nat.{_*_, _≤_};
 ghost use lib.ListN.{length};
 ghost use Rattle.refusal.specs.Outcome.{then};
 ghost use Rattle.finish.specs.Finish.{solidsTold, Holding};
-ghost use Rattle.cell_answer.specs.Ending.{solidsAnswer, endedOf, written};
-
-// How a call that answers in bytes ended, and how many bytes it wrote.
-pub struct Ended {
-    pub verdict: Verdict,
-    pub bytes: usize,
-}
+ghost use Rattle.ended.specs.Ends.{endedOf, written};
+ghost use Rattle.cell_answer.specs.Solids.{solidsAnswer};
 
 // The solids that lie in the slices are written from the front of `out` on, which has 64 bytes for each corner of the room; a refusal
 // is handed on, and leaves `out` as it is.
@@ -27,7 +23,7 @@ pub fn put_solids(
     out: &mut [u8],
 ) -> Ended
     requires { ⌜ Holding limit many v (now points) (now places) (now counts) (now sizes) (now marks) × (64 * limit ≤ length (now out)) ⌝ }
-    ensures { λ r. ⌜ r ≡ endedOf (then (solidsTold v many (now (points .entry)) (now (places .entry)) (now (counts .entry)) (now (sizes .entry)) (now (marks .entry))) solidsAnswer) ⌝ }
+    ensures { λ r. ⌜ (r ≡ endedOf (then (solidsTold v many (now (points .entry)) (now (places .entry)) (now (counts .entry)) (now (sizes .entry)) (now (marks .entry))) solidsAnswer)) × (r .bytes ≤ 32 * limit) ⌝ }
     ensures { λ _. ⌜ now (out .exit) ≡ written (then (solidsTold v many (now (points .entry)) (now (places .entry)) (now (counts .entry)) (now (sizes .entry)) (now (marks .entry))) solidsAnswer) (now (out .entry)) ⌝ }
 {
     let Verdict::Fine = v else {

@@ -7,7 +7,7 @@ use Rattle.space.specs.Shapes.{Cell}
 use Rattle.cells.specs.declared.Operation.{Operation}
 use Rattle.cells.specs.Cells.{cells}
 use Rattle.finish.specs.Finish.{finish}
-use Rattle.cell_answer.specs.Ending.{solidsAnswer}
+use Rattle.cell_answer.specs.Solids.{solidsAnswer}
 
 -- the whole list of cells stands first; then cell after cell is indexed and checked; then all of them are written
 unfoldable pub cellsCall : Operation → Precision → ℕ → Cell → Cell → Outcome (List ℕ)

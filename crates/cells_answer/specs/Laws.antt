@@ -15,7 +15,7 @@ use Rattle.cells.specs.declared.Operation.{Operation}
 use Rattle.cells.specs.Cells.{cells}
 use Rattle.finish.specs.Finish.{finish, solidsTold, Finished}
 use Rattle.finish.specs.Laws.{told-is}
-use Rattle.cell_answer.specs.Ending.{solidsAnswer}
+use Rattle.cell_answer.specs.Solids.{solidsAnswer}
 use Rattle.cells_answer.specs.Call.{cellsCall}
 
 -- the list, its solids, and their bytes

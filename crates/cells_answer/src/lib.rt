@@ -1,7 +1,7 @@
 // The cell Boolean as a call: from two checked cells in rooms to the bytes of the answer. The first cell stands in `rest` with `held`,
 // the second one in `src` with `corners`. All slices but the answer are work memory; those that the cut needs no more serve the check.
-use cell_answer::Ended;
 use cells::Operation;
+use ended::Ended;
 use space::Precision;
 ghost use mathlib.Core.Path.{_≡_};
 ghost use Prim.Native.Nat.{_*_, _≤_};
@@ -12,7 +12,7 @@ ghost use Rattle.stack.specs.Stacks.{Places, Work};
 ghost use Rattle.cells.specs.Rests.{Sits, Place};
 ghost use Rattle.built.specs.Built.{Bench};
 ghost use Rattle.finish.specs.Finish.{Shelf};
-ghost use Rattle.cell_answer.specs.Ending.{endedOf, written};
+ghost use Rattle.ended.specs.Ends.{endedOf, written};
 ghost use Rattle.cells_answer.specs.Call.{cellsCall};
 
 pub fn cells_answer(
@@ -45,7 +45,7 @@ pub fn cells_answer(
     requires { ⌜ Sits faces (now rest) (now held) × Given (now src) 0 (now corners) 0 many × Wide (cellAt (now src) 0 (countsAt (now corners) 0 many)) × (1 ≤ many) × (many ≤ 128) ⌝ }
     requires { ⌜ Place limit (now rest) (now held) × Place limit (now spare) (now slots) × Places limit (now dst) (now counts) (now sizes) × Work (now face) (now cap) (now flat) (now order) (now chain) ⌝ }
     requires { ⌜ Shelf limit (now rest) (now held) (now slots) × Bench limit limit (now order) (now head) (now chain) (now seen) (now work) (now nodes) (now cuts) × (64 * limit ≤ length (now answer)) ⌝ }
-    ensures { λ r. ⌜ r ≡ endedOf (cellsCall op t limit (cellAt (now (rest .entry)) 0 (countsAt (now (held .entry)) 0 faces)) (cellAt (now (src .entry)) 0 (countsAt (now (corners .entry)) 0 many))) ⌝ }
+    ensures { λ r. ⌜ (r ≡ endedOf (cellsCall op t limit (cellAt (now (rest .entry)) 0 (countsAt (now (held .entry)) 0 faces)) (cellAt (now (src .entry)) 0 (countsAt (now (corners .entry)) 0 many)))) × (r .bytes ≤ 32 * limit) ⌝ }
     ensures { λ _. ⌜ now (answer .exit) ≡ written (cellsCall op t limit (cellAt (now (rest .entry)) 0 (countsAt (now (held .entry)) 0 faces)) (cellAt (now (src .entry)) 0 (countsAt (now (corners .entry)) 0 many))) (now (answer .entry)) ⌝ }
 {
     let s = cells::boolean_cells(

@@ -16,8 +16,8 @@ use Rattle.cells.specs.Rests.{Sits, Place}
 use Rattle.cells.specs.declared.Operation as P
 use Rattle.built.specs.Built.{Bench}
 use Rattle.finish.specs.Finish.{Shelf}
-use Rattle.cell_answer.specs.declared.Ended.{Ended}
-use Rattle.cell_answer.specs.Ending.{endedOf, written}
+use Rattle.ended.specs.declared.Ended.{Ended}
+use Rattle.ended.specs.Ends.{endedOf, written}
 use Rattle.cells_answer.specs.Call.{cellsCall}
 use Rattle.job.specs.declared.Layout.{Layout}
 use Rattle.intake.specs.Intake.{Stands}
@@ -59,11 +59,11 @@ sits S = record { given = record { listed = S .listed; within = S .within }; wid
 
 module _ (l : List ℕ) (y : Layout) (r : Pair) (a : List Float) (held : List ℕ) (b : List Float) (counts : List ℕ) (T : TookBoth (bothOf l y) r a held b counts) where
   pub laid-stop : (room : ℕ) (q : Refusal) (answer : List ℕ) → r .verdict ≡ D.Refused q →
-      (record { verdict = r .verdict; bytes = 0 } ≡ endedOf (cellsLaid l room y)) × (answer ≡ written (cellsLaid l room y) answer)
+      ((record { verdict = r .verdict; bytes = 0 } ≡ endedOf (cellsLaid l room y)) × (0 ≤ 32 * room)) × (answer ≡ written (cellsLaid l room y) answer)
   unfolding cellsLaid endedOf written
   laid-stop room q answer v =
       let e : cellsLaid l room y ≡ refused q = pair-stop l y r a held b counts T (cellsBoth room y) q v in
-      (ap (λ x. record { verdict = x; bytes = 0 }) v ∙ ap endedOf (sym e), ap (λ o. written o answer) (sym e))
+      ((ap {B = Ended} (λ x. record { verdict = x; bytes = 0 }) v ∙ ap endedOf (sym e), omega arith), ap (λ o. written o answer) (sym e))
 
   -- the cells in their rooms
   pub laid-cells : r .verdict ≡ D.Fine → Sits (r .first) a held × Given b 0 counts 0 (r .second) × Wide (cellAt b 0 (countsAt counts 0 (r .second))) × (1 ≤ r .second) × (r .second ≤ 128)
@@ -80,7 +80,6 @@ module _ (l : List ℕ) (y : Layout) (r : Pair) (a : List Float) (held : List �
       ∙ pair-go l y r a held b counts T (cellsCall (operationAs (y .operation)) (y .precision) room) v
 
   pub laid-go : (room : ℕ) (op : P.Operation) (answer answer′ : List ℕ) (e : Ended) → r .verdict ≡ D.Fine → op ≡ operationAs (y .operation) →
-      e ≡ endedOf (cellsCall op (y .precision) room (cellAt a 0 (countsAt held 0 (r .first))) (cellAt b 0 (countsAt counts 0 (r .second)))) →
-      answer′ ≡ written (cellsCall op (y .precision) room (cellAt a 0 (countsAt held 0 (r .first))) (cellAt b 0 (countsAt counts 0 (r .second)))) answer →
-      (e ≡ endedOf (cellsLaid l room y)) × (answer′ ≡ written (cellsLaid l room y) answer)
-  laid-go room op answer answer′ e v g h k = (h ∙ ap endedOf (laid-is room op v g), k ∙ ap (λ o. written o answer) (laid-is room op v g))
+      ((e ≡ endedOf (cellsCall op (y .precision) room (cellAt a 0 (countsAt held 0 (r .first))) (cellAt b 0 (countsAt counts 0 (r .second))))) × (e .bytes ≤ 32 * room)) × (answer′ ≡ written (cellsCall op (y .precision) room (cellAt a 0 (countsAt held 0 (r .first))) (cellAt b 0 (countsAt counts 0 (r .second)))) answer) →
+      ((e ≡ endedOf (cellsLaid l room y)) × (e .bytes ≤ 32 * room)) × (answer′ ≡ written (cellsLaid l room y) answer)
+  laid-go room op answer answer′ e v g h = ((h .0 .0 ∙ ap endedOf (laid-is room op v g), h .0 .1), h .1 ∙ ap (λ o. written o answer) (laid-is room op v g))

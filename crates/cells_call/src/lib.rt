@@ -1,16 +1,16 @@
 // The cell Boolean of a job that was read: its solids in rooms, then the bytes of the cells. All slices but the answer are work memory;
 // that of a cut and of the second solid is the call's own.
-use cell_answer::Ended;
+use ended::Ended;
 use job::Layout;
 use refusal::Verdict;
 use space::Precision;
 ghost use mathlib.Core.Path.{_≡_};
-ghost use Prim.Native.Nat.{_≤_};
+ghost use Prim.Native.Nat.{_*_, _≤_};
 ghost use lib.ListN.{length};
 ghost use Rattle.room.specs.Rooms.{cellAt, countsAt};
 ghost use Rattle.clip.specs.Clips.{Given, Wide};
 ghost use Rattle.cells.specs.Rests.{Sits};
-ghost use Rattle.cell_answer.specs.Ending.{endedOf, written};
+ghost use Rattle.ended.specs.Ends.{endedOf, written};
 ghost use Rattle.cells_answer.specs.Call.{cellsCall};
 ghost use Rattle.intake.specs.Layouts.{Stood};
 ghost use Rattle.cells_call.specs.Calls.{operationAs, Lent, cellsLaid};
@@ -53,7 +53,7 @@ fn answer_here(
 ) -> Ended
     requires { ⌜ Sits faces (now rest) (now held) × Given (now src) 0 (now corners) 0 many × Wide (cellAt (now src) 0 (countsAt (now corners) 0 many)) × (1 ≤ many) × (many ≤ 128) ⌝ }
     requires { ⌜ Lent limit (length (now answer)) (length (now rest)) (length (now spare)) (length (now dst)) (length (now held)) (length (now slots)) (length (now counts)) (length (now sizes)) (length (now order)) (length (now chain)) (length (now head)) (length (now seen)) (length (now work)) (length (now nodes)) (length (now cuts)) ⌝ }
-    ensures { λ r. ⌜ r ≡ endedOf (cellsCall op t limit (cellAt (now (rest .entry)) 0 (countsAt (now (held .entry)) 0 faces)) (cellAt (now (src .entry)) 0 (countsAt (now (corners .entry)) 0 many))) ⌝ }
+    ensures { λ r. ⌜ (r ≡ endedOf (cellsCall op t limit (cellAt (now (rest .entry)) 0 (countsAt (now (held .entry)) 0 faces)) (cellAt (now (src .entry)) 0 (countsAt (now (corners .entry)) 0 many)))) × (r .bytes ≤ 32 * limit) ⌝ }
     ensures { λ _. ⌜ now (answer .exit) ≡ written (cellsCall op t limit (cellAt (now (rest .entry)) 0 (countsAt (now (held .entry)) 0 faces)) (cellAt (now (src .entry)) 0 (countsAt (now (corners .entry)) 0 many))) (now (answer .entry)) ⌝ }
 {
     let mut face = [0.0; 384];
@@ -111,7 +111,7 @@ pub fn answer_laid(
 ) -> Ended
     requires { ⌜ Stood (now job) (y .first) × Stood (now job) (y .second) ⌝ }
     requires { ⌜ Lent limit (length (now answer)) (length (now rest)) (length (now spare)) (length (now dst)) (length (now held)) (length (now slots)) (length (now counts)) (length (now sizes)) (length (now order)) (length (now chain)) (length (now head)) (length (now seen)) (length (now work)) (length (now nodes)) (length (now cuts)) ⌝ }
-    ensures { λ r. ⌜ r ≡ endedOf (cellsLaid (now (job .entry)) limit y) ⌝ }
+    ensures { λ r. ⌜ (r ≡ endedOf (cellsLaid (now (job .entry)) limit y)) × (r .bytes ≤ 32 * limit) ⌝ }
     ensures { λ _. ⌜ now (answer .exit) ≡ written (cellsLaid (now (job .entry)) limit y) (now (answer .entry)) ⌝ }
 {
     let t = y.precision;

@@ -1,2 +1,4 @@
 pub mod Call
+pub mod Wide
+pub mod Short
 pub mod Laws

@@ -1,14 +1,12 @@
 // The fused bodies of a list of cells, for the tests that call fusing's steps from outside: loose faces reach refusals that whole jobs
 // hardly reach. 64 says that the slices hold no list of cells, or that the sizes or the answer are too short; the answer is then as it was.
 use ended::Ended;
-use refusal::Verdict;
 use space::Precision;
 use stack::Stack;
 ghost use mathlib.Core.Path.{_≡_};
 ghost use Prim.Native.Nat.{_*_, _≤_};
 ghost use lib.ListN.{length};
 ghost use Rattle.refusal.specs.Outcome.{then};
-ghost use Rattle.lent.specs.Lent.{numberBy};
 ghost use Rattle.stack.specs.Stacks.{listAt, Holds};
 ghost use Rattle.ended.specs.Ends.{endedOf, written};
 ghost use Rattle.fused.specs.Bodies.{fuseCells};
@@ -19,15 +17,6 @@ const NONE: u64 = 64;
 
 // The most corners that the call's own memory is enough for.
 const ROOM: usize = 4608;
-
-fn number_by(v: Verdict) -> u64
-    ensures { λ r. ⌜ r ≡ numberBy v ⌝ }
-{
-    match v {
-        Verdict::Fine => 0,
-        Verdict::Refused(r) => r.number,
-    }
-}
 
 fn fuse_here(
     t: Precision,
@@ -121,5 +110,5 @@ pub extern "C" fn leaf_fuse(
     let list = list_lent::list_in(limit, cells, d, counts, sizes);
     let e = fuse_here(t, limit, list, d, counts, sizes, answer);
     let v = e.verdict;
-    number_by(v)
+    lent::number_by(v)
 }

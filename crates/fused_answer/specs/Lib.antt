@@ -4,4 +4,3 @@ pub mod Laws
 pub mod Bodies
 pub mod Lies
 pub mod Spots
-pub mod Size

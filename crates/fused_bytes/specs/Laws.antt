@@ -1,7 +1,7 @@
 -- What `fuse_list` leaves can be written, and its bytes are those of the fused bodies.
 use mathlib.Core.Path.{_≡_, refl, sym, ap, ap₂, _∙_, subst}
 use mathlib.Core.List.{List, [], _∷_, _++_, map}
-use Prim.Native.Nat.{ℕ, suc, _+_, _*_, _≤_, _<_}
+use Prim.Native.Nat.{ℕ, _+_, _*_, _≤_, _<_}
 use native.Mathlib.Omega.{arith}
 use lib.ListN.{length, take, drop, getD, length-append, length-map}
 use lib.Seq.{length-take-le, take-at}
@@ -12,49 +12,46 @@ use Rattle.refusal.specs.Outcome.{Outcome, ok, refused, then, heard}
 use Rattle.refusal.specs.Laws.{stop, go}
 use Rattle.space.specs.declared.Precision.{Precision}
 use Rattle.space.specs.Shapes.{Face, Cell}
-use Rattle.lists.specs.Walks.{cyclic}
-use Rattle.lists.specs.Laws.{length-cyclic}
 use Rattle.polygon.specs.Memory.{floatsOf}
 use Rattle.polygon.specs.Members.{same-ok, then-ok}
 use Rattle.room.specs.Rooms.{cellAt, countsAt, planeAt, Within}
-use Rattle.room.specs.Laws.{length-cellCounts}
+use Rattle.room.specs.Laws.{length-cellCounts, all-map}
+use Rattle.clip.specs.Clips.{Wide}
 use Rattle.words.specs.Little.{digits}
 use Rattle.writer.specs.Rows.{row}
 use Rattle.answer.specs.Answers.{shellAnswer}
 use Rattle.stack.specs.declared.Stack.{Stack}
 use Rattle.stack.specs.Stacks.{listAt, Holds}
-use Rattle.sums.specs.Sum.{sum, Each}
-use Rattle.sums.specs.KeyLaws.{sum-append, each-getD, each-imp}
+use Rattle.stack.specs.Stacks as L
+use Rattle.sums.specs.Sum.{Each}
+use Rattle.sums.specs.KeyLaws.{each-getD}
 use Rattle.groups.specs.Groups.{joined}
 use Rattle.listing.specs.Appended.{appended}
-use Rattle.listing.specs.Listed.{joined-both}
 use Rattle.keys.specs.Rows as K
-use Rattle.edges.specs.Laid.{rowRuns}
 use Rattle.bodies.specs.Fusing as F
-use Rattle.bodies.specs.Fusing.{Bodies, fuse, exterior}
-use Rattle.bodies.specs.ListLaws.{Valid, answered, listed-weight}
+use Rattle.bodies.specs.Fusing.{Bodies, fuse}
+use Rattle.bodies.specs.ListLaws.{Valid}
 use Rattle.interfaces.specs.Facets.{facetsOf, many-facets}
 use Rattle.volume.specs.Shell as O
 use Rattle.cavities.specs.Steps.{volumeOf}
-use Rattle.fusing.specs.Bench.{few-runs}
 use Rattle.parts.specs.Cells.{valid-cells}
 use Rattle.assembly.specs.Answer as A
 use Rattle.assembly.specs.Answer.{shellsIn}
-use Rattle.fuse.specs.Theorem.{Sound, Full, fuse-sound}
+use Rattle.fuse.specs.Theorem.{Sound, fuse-sound}
 use Rattle.ended.specs.declared.Ended.{Ended}
 use Rattle.ended.specs.Ends.{endedOf, written}
 use Rattle.arrangement.specs.Arrangements.{facesOf, Arrangement, arrangeCells, laidOf}
-use Rattle.arrangement.specs.Facts.{Facets, facets-many, vertices-are, cycles-wide}
+use Rattle.arrangement.specs.Facts.{Facets, facets-many, vertices-are}
 use Rattle.fused.specs.Bodies.{noFace, fuseIn, facetIn, drawnIn, fuseCells}
-use Rattle.fused.specs.Laws.{corners-are, row-is}
+use Rattle.fused.specs.Laws.{corners-are}
 use Rattle.fused_answer.specs.Fused.{facetOf, shellBytes, shellsBytes, bodyBytes}
 use Rattle.fused_answer.specs.Bodies.{bodiesAt, Stacked}
 use Rattle.fused_answer.specs.Spots.{spot-plane, spot-stored}
 use Rattle.fused_answer.specs.Lies.{laid-bodies, laid-stacked, laid-many}
-use Rattle.fused_answer.specs.Size.{bodies-fit}
 use Rattle.fuse_list.specs.declared.Listing.{Listing}
 use Rattle.fuse_list.specs.Lists.{bodiesOf, Ready, Told}
 use Rattle.fuse_list.specs.Laws.{points-are, starts-are, front-fused, points-corners, cycles-faces, list-cells, list-faces, list-corners, facets-of, list-ready}
+use Rattle.fused_bytes.specs.Size.{each-shells, cells-short}
 use Rattle.fused_bytes.specs.Bytes.{shellsAnswer, bodyAnswer, fusedAnswer, answerOf, spotsAt, printed, printAt, Printable}
 
 -- ---- lists of lists
@@ -63,47 +60,15 @@ map-each : {A B : Type 0} (P : A → Type 0) (f g : A → B) (l : List A) → ((
 map-each P f g [] h e = refl
 map-each P f g (x ∷ l) h e = ap₂ (λ a b. a ∷ b) (h x (e .0)) (map-each P f g l h (e .1))
 
-both : (P : ℕ → Type 0) (a c : List ℕ) → Each P (a ++ c) → Each P a × Each P c
-both P [] c w = (tt, w)
-both P (i ∷ a) c w = let r = both P a c (w .1) in ((w .0, r .0), r .1)
-
-each-shells : (P : ℕ → Type 0) (bs : Bodies) → Each P (joined (shellsIn bs)) → Each (λ b. Each P (joined b)) bs
-unfolding shellsIn
-each-shells P [] e = tt
-each-shells P (b ∷ bs) e = let r = both P (joined b) (joined (shellsIn bs)) (subst (Each P) (joined-both b (shellsIn bs)) e) in (r .0, each-shells P bs (r .1))
-
-sum-joined : (f : ℕ → ℕ) (gs : List (List ℕ)) → sum f (joined gs) ≡ sum (sum f) gs
-unfolding joined sum
-sum-joined f [] = refl
-sum-joined f (g ∷ gs) = sum-append f g (joined gs) ∙ ap (λ n. sum f g + n) (sum-joined f gs)
-
-sum-shells : (f : ℕ → ℕ) (bs : Bodies) → sum f (joined (shellsIn bs)) ≡ sum (sum (sum f)) bs
-unfolding shellsIn sum
-sum-shells f [] = unfold joined in refl
-sum-shells f (b ∷ bs) = ap (sum f) (joined-both b (shellsIn bs)) ∙ sum-append f (joined b) (joined (shellsIn bs)) ∙ omega (arith, sum-joined f b, sum-shells f bs)
-
-runs-size : (v starts : List ℕ) (p : ℕ) (l : List ℕ) → length (rowRuns v starts p l) ≡ sum (λ i. length (K.row v starts i)) l
-unfolding rowRuns sum
-runs-size v starts p [] = refl
-runs-size v starts p (i ∷ l) = omega (
-  arith,
-  length-append (map (F.runOf p) (cyclic (K.row v starts i))) (rowRuns v starts (suc p) l),
-  length-map (cyclic (K.row v starts i)) (F.runOf p),
-  length-cyclic (K.row v starts i),
-  runs-size v starts (suc p) l,
-)
-
 -- ---- the bytes of facets that are the same
 
 module _ (d : List Float) (spots : List ℕ) (ps : List Float) (v starts : List ℕ) (f : ℕ) (g : ℕ → Face) (same : (i : ℕ) → i < f → facetOf d spots ps v starts i ≡ g i) where
-  shells-same : (sense : ℕ) (gs : List (List ℕ)) → Each (λ i. i < f) (joined gs) → shellsBytes d spots ps v starts sense gs ≡ shellsAnswer sense (map (map g) gs)
-  unfolding shellsBytes shellsAnswer shellBytes joined
+  shells-same : (sense : ℕ) (gs : List (List ℕ)) → Each (Each (λ i. i < f)) gs → shellsBytes d spots ps v starts sense gs ≡ shellsAnswer sense (map (map g) gs)
+  unfolding shellsBytes shellsAnswer shellBytes
   shells-same sense [] e = refl
-  shells-same sense (s ∷ gs) e =
-      let r = both (λ i. i < f) s (joined gs) e in
-      ap₂ (λ a b. shellAnswer sense a ++ b) (map-each (λ i. i < f) (facetOf d spots ps v starts) g s same (r .0)) (shells-same 0 gs (r .1))
+  shells-same sense (s ∷ gs) e = ap₂ (λ a b. shellAnswer sense a ++ b) (map-each (λ i. i < f) (facetOf d spots ps v starts) g s same (e .0)) (shells-same 0 gs (e .1))
 
-  bodies-same : (bs : Bodies) → Each (λ b. Each (λ i. i < f) (joined b)) bs → row (bodyBytes d spots ps v starts) bs ≡ fusedAnswer (map (map (map g)) bs)
+  bodies-same : (bs : Bodies) → Each (Each (Each (λ i. i < f))) bs → row (bodyBytes d spots ps v starts) bs ≡ fusedAnswer (map (map (map g)) bs)
   unfolding row bodyBytes fusedAnswer bodyAnswer
   bodies-same [] e = refl
   bodies-same (b ∷ bs) e =
@@ -162,9 +127,6 @@ module _ {room : ℕ} {k : Stack} {d : List Float} {n j : List ℕ} (H : Holds r
     inside : Each (λ i. i < f) (joined (shellsIn bs))
     inside = subst (λ m. Each (λ i. i < m) (joined (shellsIn bs))) (many-facets vs ss (take f w) f) (subst (λ q. Each (λ i. i < length fs) (joined (shellsIn q))) bodies-are (sound .inside))
 
-    full : Each Full bs
-    full = subst (Each Full) bodies-are (sound .full)
-
     -- how many there are
     facets-told : y .fused .facets ≡ length (joined (shellsIn bs))
     unfolding A.Laid
@@ -201,39 +163,29 @@ module _ {room : ℕ} {k : Stack} {d : List Float} {n j : List ℕ} (H : Holds r
     faces-listed : f ≤ length n
     faces-listed = omega (arith, faces-told, list-faces H cs e .0 .listed)
 
-    -- each has three corners or more, and all of them fit the room
-    rows-are : (i : ℕ) → K.row vs ss i ≡ getD (a .cycles) i []
-    rows-are i = ap₂ (λ q m. K.row q m i) (vertices-are (T .arranged) told facts cycles starts) (starts-are (T .arranged) told facts few points cycles starts owners) ∙ row-is (a .cycles) i
+    -- a facet's plane is its face's, its corners are the points of its cycle
+    facet-same : (spots : List ℕ) → room ≤ length spots → (i : ℕ) → i < f → facetOf d (spotsAt y d n p c s x z b spots) ps vs ss i ≡ facetIn a (facesOf cs) i
+    unfolding facetOf facetIn spotsAt O.pointAt
+    facet-same spots q i v =
+        let u : length (countsAt n 0 f) ≡ f = length-take-le f n faces-listed in
+        let r : cellAt d 0 (countsAt n 0 f) ≡ facesOf cs = ap (λ m. cellAt d 0 (countsAt n 0 m)) faces-told ∙ list-faces H cs e .1 in
+        ap₂ (λ m q. record { plane = m; points = q })
+        (ap (planeAt d) (spot-stored spots (countsAt n 0 f) i (omega (arith, u, ready .facets)) (omega (arith, u))) ∙ spot-plane d 0 (countsAt n 0 f) i noFace (omega (arith, u)) ∙ ap (λ m. getD m i noFace .plane) r)
+        (ap (λ m. map (O.pointAt m) (K.row vs ss i)) (points-are (T .arranged) told facts few points cycles starts owners)
+        ∙ ap₂ (λ m q. map (O.pointAt (floatsOf (a .points))) (K.row m q i)) (vertices-are (T .arranged) told facts cycles starts) (starts-are (T .arranged) told facts few points cycles starts owners) ∙ corners-are a i)
 
-    wide : (i : ℕ) → i < f → 3 ≤ length (K.row vs ss i)
-    wide i q = omega (arith, ap length (rows-are i), cycles-wide (T .arranged) told facts cycles starts i q)
+    pub prints : (spots : List ℕ) → room ≤ length spots → printed y d n p c s x z b spots ≡ fusedAnswer (drawnIn cs a bs)
+    prints spots q = printed-are spots ∙ bodies-same d (spotsAt y d n p c s x z b spots) ps vs ss f (facetIn a (facesOf cs)) (facet-same spots q) bs (each-shells (λ i. i < f) bs inside)
 
-    corners-few : sum (λ i. length (K.row vs ss i)) (joined (shellsIn bs)) ≤ room
-    corners-few =
-        let u : length vs ≡ y .layout .vertices = length-take-le (y .layout .vertices) c (ready .cycles) in
-        omega (
-          arith,
-          sum-shells (λ i. length (K.row vs ss i)) bs,
-          listed-weight (volumeOf ps vs ss) fs (k .cells) bs valid (answered (volumeOf ps vs ss) fs (k .cells) bs fused) (λ i. length (K.row vs ss i)),
-          runs-size vs ss 0 (exterior fs),
-          few-runs vs ss (take f w) f (exterior fs) (ready .facetted .cycles .fine) refl,
-          u,
-          ready .vertices,
-        )
+    -- they are at most 64 for each corner of the room, as those of any answer
+    drawn : fuseCells t room cs ≡ ok (drawnIn cs a bs)
+    unfolding fuseCells
+    drawn = go (arrangeCells t room cs) _ a g ∙ go (fuseIn a (length cs)) (λ bs. ok (drawnIn cs a bs)) bs h
 
-    bytes-few : (spots : List ℕ) → length (printed y d n p c s x z b spots) ≤ 64 * room
-    bytes-few spots =
-        omega (
-          arith,
-          ap length (printed-are spots),
-          bodies-fit d (spotsAt y d n p c s x z b spots) ps vs ss bs
-              (each-imp Full (λ q. 0 < length q) bs (λ q r. r .some) full)
-              (each-imp Full (Each (λ q. 0 < length q)) bs (λ q r. r .each) full)
-              (each-shells (λ i. 3 ≤ length (K.row vs ss i)) bs (each-imp (λ i. i < f) (λ i. 3 ≤ length (K.row vs ss i)) (joined (shellsIn bs)) wide inside)),
-          corners-few,
-        )
+    bytes-few : (spots : List ℕ) → room ≤ length spots → length (printed y d n p c s x z b spots) ≤ 64 * room
+    bytes-few spots q = omega (arith, ap length (prints spots q), cells-short t room cs (drawnIn cs a bs) drawn (all-map L.Sound Wide cs (λ c r. r .wide) (H .lies cs e .sound)))
 
-    pub can-print : (spots out : List ℕ) → room ≤ 4611686018427387904 → room ≤ length spots → 64 * room ≤ length out → Printable y d n p c s x z b spots out
+    can-print : (spots out : List ℕ) → room ≤ 4611686018427387904 → room ≤ length spots → 64 * room ≤ length out → Printable y d n p c s x z b spots out
     unfolding A.Laid
     can-print spots out low q m = record {
       few = ready .few;
@@ -250,22 +202,8 @@ module _ {room : ℕ} {k : Stack} {d : List Float} {n j : List ℕ} (H : Holds r
       inside = λ i v. each-getD (λ i. i < f) (take (y .fused .facets) x) 0 i (subst (Each (λ i. i < f)) (sym facets-are) inside) v;
       bodies = omega (arith, bodies-told, laid-many bs x₀ z₀ b₀ x z b (l .1) (l .2) (l .3));
       stacked = stacked;
-      fits = omega (arith, bytes-few spots, m);
+      fits = omega (arith, bytes-few spots q, m);
     }
-
-    -- a facet's plane is its face's, its corners are the points of its cycle
-    facet-same : (spots : List ℕ) → room ≤ length spots → (i : ℕ) → i < f → facetOf d (spotsAt y d n p c s x z b spots) ps vs ss i ≡ facetIn a (facesOf cs) i
-    unfolding facetOf facetIn spotsAt O.pointAt
-    facet-same spots q i v =
-        let u : length (countsAt n 0 f) ≡ f = length-take-le f n faces-listed in
-        let r : cellAt d 0 (countsAt n 0 f) ≡ facesOf cs = ap (λ m. cellAt d 0 (countsAt n 0 m)) faces-told ∙ list-faces H cs e .1 in
-        ap₂ (λ m q. record { plane = m; points = q })
-        (ap (planeAt d) (spot-stored spots (countsAt n 0 f) i (omega (arith, u, ready .facets)) (omega (arith, u))) ∙ spot-plane d 0 (countsAt n 0 f) i noFace (omega (arith, u)) ∙ ap (λ m. getD m i noFace .plane) r)
-        (ap (λ m. map (O.pointAt m) (K.row vs ss i)) (points-are (T .arranged) told facts few points cycles starts owners)
-        ∙ ap₂ (λ m q. map (O.pointAt (floatsOf (a .points))) (K.row m q i)) (vertices-are (T .arranged) told facts cycles starts) (starts-are (T .arranged) told facts few points cycles starts owners) ∙ corners-are a i)
-
-    pub prints : (spots : List ℕ) → room ≤ length spots → printed y d n p c s x z b spots ≡ fusedAnswer (drawnIn cs a bs)
-    prints spots q = printed-are spots ∙ bodies-same d (spotsAt y d n p c s x z b spots) ps vs ss f (facetIn a (facesOf cs)) (facet-same spots q) bs (each-shells (λ i. i < f) bs inside)
 
   can-by : (spots out : List ℕ) → room ≤ 4611686018427387904 → room ≤ length spots → 64 * room ≤ length out → (o : Outcome Bodies) → then (listAt k d n j) (bodiesOf t room) ≡ o → A.Laid o x₀ z₀ b₀ x z b (y .fused) → y .fused .verdict ≡ Fine → Printable y d n p c s x z b spots out
   unfolding bodiesOf A.Laid
@@ -294,22 +232,22 @@ module _ {room : ℕ} {k : Stack} {d : List Float} {n j : List ℕ} (H : Holds r
       let u = then-ok (listAt k d n j) (bodiesOf t room) bs e in
       let r = then-ok (arrangeCells t room (u .0)) (λ a. fuseIn a (length (u .0))) bs (u .2) in
       let made : then (listAt k d n j) (fuseCells t room) ≡ ok (drawnIn (u .0) (r .0) bs)
-      = go (listAt k d n j) (fuseCells t room) (u .0) (u .1) ∙ go (arrangeCells t room (u .0)) _ (r .0) (r .1) ∙ go (fuseIn (r .0) (length (u .0))) (λ bs. ok (drawnIn (u .0) (r .0) bs)) bs (r .2) in
+      = go (listAt k d n j) (fuseCells t room) (u .0) (u .1) ∙ drawn (u .0) (r .0) bs (u .1) (r .1) (r .2) l in
       ap (λ v. then (heard {A = Unit {0}} v tt) (λ _. ok (printed y d n p c s x z b spots))) (ap (λ q. q .verdict) (l .0))
       ∙ ap ok (prints (u .0) (r .0) bs (u .1) (r .1) (r .2) l spots q) ∙ ap answerOf (sym made)
   bytes-by spots q (refused r) e l =
       ap (λ v. then (heard {A = Unit {0}} v tt) (λ _. ok (printed y d n p c s x z b spots))) (ap (λ q. q .verdict) l)
       ∙ ap answerOf (sym (cells-stop r (listAt k d n j) e))
 
-  few-by : (spots : List ℕ) (o : Outcome Bodies) → then (listAt k d n j) (bodiesOf t room) ≡ o → A.Laid o x₀ z₀ b₀ x z b (y .fused) → endedOf (printAt y d n p c s x z b spots) .bytes ≤ 64 * room
+  few-by : (spots : List ℕ) → room ≤ length spots → (o : Outcome Bodies) → then (listAt k d n j) (bodiesOf t room) ≡ o → A.Laid o x₀ z₀ b₀ x z b (y .fused) → endedOf (printAt y d n p c s x z b spots) .bytes ≤ 64 * room
   unfolding bodiesOf A.Laid printAt heard endedOf
-  few-by spots (ok bs) e l =
+  few-by spots q (ok bs) e l =
       let u = then-ok (listAt k d n j) (bodiesOf t room) bs e in
       let r = then-ok (arrangeCells t room (u .0)) (λ a. fuseIn a (length (u .0))) bs (u .2) in
       let m : endedOf (printAt y d n p c s x z b spots) .bytes ≡ length (printed y d n p c s x z b spots)
       = ap (λ v. endedOf (then (heard {A = Unit {0}} v tt) (λ _. ok (printed y d n p c s x z b spots))) .bytes) (ap (λ q. q .verdict) (l .0)) in
-      omega (arith, m, bytes-few (u .0) (r .0) bs (u .1) (r .1) (r .2) l spots)
-  few-by spots (refused r) e l =
+      omega (arith, m, bytes-few (u .0) (r .0) bs (u .1) (r .1) (r .2) l spots q)
+  few-by spots q (refused r) e l =
       let m : endedOf (printAt y d n p c s x z b spots) .bytes ≡ 0
       = ap (λ v. endedOf (then (heard {A = Unit {0}} v tt) (λ _. ok (printed y d n p c s x z b spots))) .bytes) (ap (λ q. q .verdict) l) in
       omega (arith, m)
@@ -319,5 +257,5 @@ module _ {room : ℕ} {k : Stack} {d : List Float} {n j : List ℕ} (H : Holds r
       ((r ≡ endedOf (answerOf (then (listAt k d n j) (fuseCells t room)))) × (r .bytes ≤ 64 * room)) × (out ≡ written (answerOf (then (listAt k d n j) (fuseCells t room))) out₀)
   listing-answered spots q out₀ out r h g =
       let u = bytes-by spots q (then (listAt k d n j) (bodiesOf t room)) refl (T .fused) in
-      let m = few-by spots (then (listAt k d n j) (bodiesOf t room)) refl (T .fused) in
+      let m = few-by spots q (then (listAt k d n j) (bodiesOf t room)) refl (T .fused) in
       ((h ∙ ap endedOf u, subst (λ e. e .bytes ≤ 64 * room) (sym h) m), g ∙ ap (λ o. written o out₀) u)

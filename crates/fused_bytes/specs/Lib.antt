@@ -1,3 +1,4 @@
 pub mod Bytes
+pub mod Size
 pub mod Steps
 pub mod Laws

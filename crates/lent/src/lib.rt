@@ -1,6 +1,7 @@
 // Numbers, points and planes at the front of a lent slice, for calls from outside: one that is too short is read as zeros and
 // left alone.
 use interval::Interval;
+use refusal::Verdict;
 use space::Frame;
 use space::Plane;
 use space::Planed;
@@ -8,7 +9,7 @@ use space::Point3;
 ghost use mathlib.Core.Path.{_≡_};
 ghost use Rattle.refusal.specs.Outcome.{numberOf};
 ghost use Rattle.space.specs.Frames.{planed};
-ghost use Rattle.lent.specs.Lent.{yes, stored, pointBy, flat, planeBy, pointStored, planeStored, planeIn};
+ghost use Rattle.lent.specs.Lent.{yes, stored, numberBy, pointBy, flat, planeBy, pointStored, planeStored, planeIn};
 
 pub fn code(b: bool) -> u64
     ensures { λ r. ⌜ r ≡ yes b ⌝ }
@@ -23,6 +24,16 @@ pub fn put_ends(out: &mut [f64], i: Interval)
     if 2 <= out.len() {
         out[0] = i.lo;
         out[1] = i.hi;
+    }
+}
+
+// 01's number of a verdict.
+pub fn number_by(v: Verdict) -> u64
+    ensures { λ r. ⌜ r ≡ numberBy v ⌝ }
+{
+    match v {
+        Verdict::Fine => 0,
+        Verdict::Refused(r) => r.number,
     }
 }
 

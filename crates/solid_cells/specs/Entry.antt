@@ -1,14 +1,11 @@
 -- The call of the cell Boolean from outside. Definitions only.
-use Prim.Native.Nat.{ℕ, _+_, _*_, _/_, _%_}
+use Prim.Native.Nat.{ℕ, _+_, _*_, _/_}
 use mathlib.Core.Path.{_≡_}
 use mathlib.Core.Bool.{Bool, _&&_}
 use mathlib.Core.List.{List}
-use lib.ListN.{length}
 use lib.Dec.{leb, ltb}
 use lib.Ieee.{Float}
-use Rattle.refusal.specs.declared.Verdict.{Verdict}
-use Rattle.refusal.specs.declared.Verdict.the-variants.{Fine, Refused}
-use Rattle.refusal.specs.Outcome.{Outcome, ok, refused, then}
+use Rattle.refusal.specs.Outcome.{Outcome, then}
 use Rattle.clear.specs.Clear.{zeros, zeroFloats}
 use Rattle.jobs.specs.Jobs.{openJob}
 use Rattle.cells_call.specs.Calls.{cellsLaid}
@@ -27,15 +24,6 @@ lends room answer rest spare dst held slots counts sizes order chain head seen w
 -- "1 (a job is read whole first), 12 for an answer room below the work room, 2 for the tolerances, the first solid, the second, then 000's own order of work"
 unfoldable pub cellsEntry : Bool → ℕ → List ℕ → Outcome (List ℕ)
 cellsEntry enough room l = then (openJob enough l) (cellsLaid l room)
-
--- what is handed back: the number, and 256 times how many bytes the answer has; no memory holds 2^56 bytes
-unfoldable pub toldBy : Verdict → ℕ → ℕ
-toldBy Fine n = 256 * (n % 72057594037927936)
-toldBy (Refused r) n = r .number
-
-unfoldable pub toldOf : Outcome (List ℕ) → ℕ
-toldOf (ok b) = 256 * (length b % 72057594037927936)
-toldOf (refused r) = r .number
 
 -- all work slices are zero
 pub record Cleared (rest rest′ spare spare′ dst dst′ : List Float) (held held′ slots slots′ counts counts′ sizes sizes′ order order′ chain chain′ head head′ seen seen′ work work′ nodes nodes′ cuts cuts′ : List ℕ) : Type 0 where

@@ -2,14 +2,12 @@
 use mathlib.Core.Path.{_≡_, refl, sym, ap, _∙_}
 use mathlib.Core.Bool.{Bool, true, false, _&&_}
 use mathlib.Core.List.{List}
-use Prim.Native.Nat.{ℕ, _+_, _*_, _/_, _%_, _≤_, _<_}
+use Prim.Native.Nat.{ℕ, _+_, _*_, _/_, _≤_, _<_}
 use native.Mathlib.Omega.{arith}
 use lib.Dec.{leb, ltb}
 use borrow.Author.Tests.{leb-true, ltb-true, lt-leb, le-leb}
 use Rattle.refusal.specs.declared.Refusal.{Refusal}
-use Rattle.refusal.specs.declared.Verdict.{Verdict}
-use Rattle.refusal.specs.declared.Verdict.the-variants as D
-use Rattle.refusal.specs.Outcome.{Outcome, ok, refused}
+use Rattle.refusal.specs.Outcome.{refused}
 use Rattle.refusal.specs.Laws.{stop, go}
 use Rattle.topology.specs.Chains.{and-true}
 use Rattle.job.specs.declared.Layout.{Layout}
@@ -19,10 +17,11 @@ use Rattle.job.specs.Read.{laid}
 use Rattle.intake.specs.Layouts.{Stood}
 use Rattle.jobs.specs.Jobs.{openJob}
 use Rattle.jobs.specs.Laws.{job-opened}
-use Rattle.cell_answer.specs.declared.Ended.{Ended}
-use Rattle.cell_answer.specs.Ending.{endedOf, written}
+use Rattle.ended.specs.declared.Ended.{Ended}
+use Rattle.ended.specs.Ends.{stopped, endedOf, written, toldBy, toldOf}
+use Rattle.ended.specs.Laws.{told-of}
 use Rattle.cells_call.specs.Calls.{cellsLaid, Lent}
-use Rattle.solid_cells.specs.Entry.{lengthy, lends, cellsEntry, toldBy, toldOf}
+use Rattle.solid_cells.specs.Entry.{lengthy, lends, cellsEntry}
 
 -- ---- what is lent
 
@@ -46,6 +45,10 @@ module _ (room answer rest spare dst held slots counts sizes order chain head se
   pub lends-rest : room ≤ 4294967296 → lengthy room answer rest spare dst held slots counts sizes order chain head seen work nodes cuts ≡ lends room answer rest spare dst held slots counts sizes order chain head seen work nodes cuts
   unfolding lends
   lends-rest h = sym (ap (λ x. x && lengthy room answer rest spare dst held slots counts sizes order chain head seen work nodes cuts) (le-leb room 4294967296 h))
+
+  pub lends-low : lends room answer rest spare dst held slots counts sizes order chain head seen work nodes cuts ≡ true → room ≤ 4294967296
+  unfolding lends
+  lends-low q = leb-true room 4294967296 (and-true (leb room 4294967296) (lengthy room answer rest spare dst held slots counts sizes order chain head seen work nodes cuts) q .0)
 
   pub lent-is : lends room answer rest spare dst held slots counts sizes order chain head seen work nodes cuts ≡ true → Lent room answer rest spare dst held slots counts sizes order chain head seen work nodes cuts
   unfolding lends
@@ -90,34 +93,23 @@ unfolding laid
 entry-opened enough l c y e g = job-opened enough l y (sym e ∙ ap laid g)
 
 module _ (enough : Bool) (room : ℕ) (l : List ℕ) where
-  pub entry-made : (c : Laid) (y : Layout) (r : Ended) (answer answer′ : List ℕ) → laid c ≡ openJob enough l → c ≡ J.Made y → r ≡ endedOf (cellsLaid l room y) → answer′ ≡ written (cellsLaid l room y) answer →
-      (r ≡ endedOf (cellsEntry enough room l)) × (answer′ ≡ written (cellsEntry enough room l) answer)
+  pub entry-made : (c : Laid) (y : Layout) (r : Ended) (answer answer′ : List ℕ) → laid c ≡ openJob enough l → c ≡ J.Made y → room ≤ 4294967296 →
+      ((r ≡ endedOf (cellsLaid l room y)) × (r .bytes ≤ 32 * room)) × (answer′ ≡ written (cellsLaid l room y) answer) →
+      ((r ≡ endedOf (cellsEntry enough room l)) × (r .bytes ≤ 137438953472)) × (answer′ ≡ written (cellsEntry enough room l) answer)
   unfolding laid cellsEntry
-  entry-made c y r answer answer′ e g h k =
+  entry-made c y r answer answer′ e g n h =
       let q : cellsLaid l room y ≡ cellsEntry enough room l = sym (go (openJob enough l) (cellsLaid l room) y (sym e ∙ ap laid g)) in
-      (h ∙ ap endedOf q, k ∙ ap (λ o. written o answer) q)
+      ((h .0 .0 ∙ ap endedOf q, omega (arith, n, h .0 .1)), h .1 ∙ ap (λ o. written o answer) q)
 
-  pub entry-refused : (c : Laid) (q : Refusal) (answer : List ℕ) → laid c ≡ openJob enough l → c ≡ J.Refused q →
-      (record { verdict = D.Refused q; bytes = 0 } ≡ endedOf (cellsEntry enough room l)) × (answer ≡ written (cellsEntry enough room l) answer)
+  pub entry-refused : (c : Laid) (q : Refusal) (r : Ended) (answer : List ℕ) → laid c ≡ openJob enough l → c ≡ J.Refused q → r ≡ stopped q →
+      ((r ≡ endedOf (cellsEntry enough room l)) × (r .bytes ≤ 137438953472)) × (answer ≡ written (cellsEntry enough room l) answer)
   unfolding laid cellsEntry endedOf written
-  entry-refused c q answer e g =
+  entry-refused c q r answer e g h =
       let w : refused q ≡ cellsEntry enough room l = sym (stop (openJob enough l) (cellsLaid l room) q (sym e ∙ ap laid g)) in
-      (ap endedOf w, ap (λ o. written o answer) w)
+      let z : r .bytes ≡ 0 = ap (λ k. k .bytes) h in
+      ((h ∙ ap endedOf w, omega (arith, z)), ap (λ o. written o answer) w)
 
 -- ---- what is handed back
-
-told-of : (o : Outcome (List ℕ)) → toldBy (endedOf o .verdict) (endedOf o .bytes) ≡ toldOf o
-unfolding toldBy toldOf endedOf
-told-of (ok b) = refl
-told-of (refused r) = refl
-
-pub told-fine : (v : Verdict) (n : ℕ) → v ≡ D.Fine → 256 * (n % 72057594037927936) ≡ toldBy v n
-unfolding toldBy
-told-fine v n e = ap (λ w. toldBy w n) (sym e)
-
-pub told-refused : (v : Verdict) (n : ℕ) (r : Refusal) → v ≡ D.Refused r → r .number ≡ toldBy v n
-unfolding toldBy
-told-refused v n r e = ap (λ w. toldBy w n) (sym e)
 
 pub entry-ends : (enough lent : Bool) (room : ℕ) (l : List ℕ) (e : Ended) (r : ℕ) (answer answer′ : List ℕ) → enough ≡ lent → e ≡ endedOf (cellsEntry enough room l) → answer′ ≡ written (cellsEntry enough room l) answer →
     r ≡ toldBy (e .verdict) (e .bytes) → (r ≡ toldOf (cellsEntry lent room l)) × (answer′ ≡ written (cellsEntry lent room l) answer)

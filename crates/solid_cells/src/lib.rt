@@ -1,11 +1,11 @@
 // The call of the cell Boolean from outside.
-use cell_answer::Ended;
+use ended::Ended;
 use job::Laid;
-use refusal::Verdict;
 ghost use mathlib.Core.Path.{_≡_};
+ghost use Prim.Native.Nat.{_≤_};
 ghost use lib.ListN.{length};
-ghost use Rattle.cell_answer.specs.Ending.{endedOf, written};
-ghost use Rattle.solid_cells.specs.Entry.{lends, cellsEntry, toldBy, toldOf, Cleared};
+ghost use Rattle.ended.specs.Ends.{endedOf, written, toldOf};
+ghost use Rattle.solid_cells.specs.Entry.{lends, cellsEntry, Cleared};
 
 // Enough is lent for a room of so many corners.
 fn is_lent(
@@ -41,16 +41,7 @@ fn is_lent(
     (room <= answer / 64) & ((floats & list) & (cut & faces))
 }
 
-// The number, and 256 times the bytes.
-fn told_by(v: Verdict, n: usize) -> u64
-    ensures { λ r. ⌜ r ≡ toldBy v n ⌝ }
-{
-    match v {
-        Verdict::Fine => 256 * ((n as u64) % 72057594037927936),
-        Verdict::Refused(r) => r.number,
-    }
-}
-
+// At most 2^37 bytes: 32 for each corner of a room of at most 2^32.
 fn served(
     job: &[u8],
     limit: usize,
@@ -72,7 +63,7 @@ fn served(
     answer: &mut [u8],
 ) -> Ended
     requires { ⌜ enough ≡ lends limit (length (now answer)) (length (now rest)) (length (now spare)) (length (now dst)) (length (now held)) (length (now slots)) (length (now counts)) (length (now sizes)) (length (now order)) (length (now chain)) (length (now head)) (length (now seen)) (length (now work)) (length (now nodes)) (length (now cuts)) ⌝ }
-    ensures { λ r. ⌜ r ≡ endedOf (cellsEntry enough limit (now (job .entry))) ⌝ }
+    ensures { λ r. ⌜ (r ≡ endedOf (cellsEntry enough limit (now (job .entry)))) × (r .bytes ≤ 137438953472) ⌝ }
     ensures { λ _. ⌜ now (answer .exit) ≡ written (cellsEntry enough limit (now (job .entry))) (now (answer .entry)) ⌝ }
 {
     let read = jobs::open_job(job, enough);
@@ -97,10 +88,7 @@ fn served(
             cuts,
             answer,
         ),
-        Laid::Refused(r) => Ended {
-            verdict: Verdict::Refused(r),
-            bytes: 0,
-        },
+        Laid::Refused(r) => ended::stop(r),
     }
 }
 
@@ -148,7 +136,7 @@ pub fn cells(
         nodes.len(),
         cuts.len(),
     );
-    let ended = served(
+    let e = served(
         job,
         limit,
         enough,
@@ -172,6 +160,6 @@ pub fn cells(
     clear::zero_counts4(held, slots, counts, sizes);
     clear::zero_counts4(order, chain, head, seen);
     clear::zero_counts3(work, nodes, cuts);
-    let v = ended.verdict;
-    told_by(v, ended.bytes)
+    let v = e.verdict;
+    ended::told_by(v, e.bytes)
 }

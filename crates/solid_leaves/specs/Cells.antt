@@ -3,8 +3,6 @@ use Prim.Native.Nat.{ℕ, _/_}
 use mathlib.Core.Bool.{Bool, _&&_, cond}
 use mathlib.Core.List.{List}
 use lib.Dec.{leb}
-use Rattle.refusal.specs.declared.Verdict.{Verdict}
-use Rattle.refusal.specs.declared.Verdict.the-variants.{Fine, Refused}
 use Rattle.refusal.specs.Outcome.{Outcome, then, numberOf}
 use Rattle.space.specs.Shapes.{Cell}
 use Rattle.job.specs.Read.{readCell}
@@ -13,11 +11,6 @@ use Rattle.solid_check.specs.Check.{check}
 -- the bytes are read, and the solid that they mean is checked
 unfoldable pub checkBytes : Bool → List ℕ → Outcome Cell
 checkBytes counted l = then (readCell l) (λ j. check counted (j .precision) (j .solid))
-
--- 01: 0 is an answer
-unfoldable pub verdictNumber : Verdict → ℕ
-verdictNumber Fine = 0
-verdictNumber (Refused r) = r .number
 
 -- work memory of these lengths suffices for any cell of 32,768 bytes
 abbrev pub roomy : ℕ → ℕ → ℕ → ℕ → ℕ → ℕ → ℕ → ℕ → ℕ → ℕ → Bool

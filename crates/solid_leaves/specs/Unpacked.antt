@@ -27,12 +27,13 @@ use Rattle.solid_check.specs.Check.{check}
 use Rattle.solid_check.specs.Check as K
 use Rattle.intake.specs.Unpacked.{solid-mean, placing-mean}
 use Rattle.intake.specs.Layouts.{laid-placed}
-use Rattle.solid_leaves.specs.Cells.{checkBytes, verdictNumber, roomy, cellNumber}
+use Rattle.lent.specs.Lent.{numberBy}
+use Rattle.solid_leaves.specs.Cells.{checkBytes, roomy, cellNumber}
 
 -- ---- the number
 
-pub number-of : (o : Outcome Cell) → verdictNumber (verdictOf o) ≡ numberOf o
-unfolding verdictNumber verdictOf numberOf
+pub number-of : (o : Outcome Cell) → numberBy (verdictOf o) ≡ numberOf o
+unfolding numberBy verdictOf numberOf
 number-of (ok c) = refl
 number-of (refused r) = refl
 
@@ -112,11 +113,11 @@ module _ (l : List ℕ) (y : CellLayout) (e : cellLayout l ≡ ok y) (s s′ : L
   pub laid-placing : Placing (countsAt cs′ 0 (y .solid .faces)) 0 (length ps′)
   laid-placing = rw (cE, pE) (placing-mean l 17 (y .solid) (laid-placed l y e .0) s cs ps sR cR pR)
 
-  pub laid-number : (counted : Bool) (v : Verdict) (r : ℕ) → r ≡ verdictNumber v → v ≡ verdictOf (check counted (y .precision) (K.solidAt s′ (y .solid .points) ps′ cs′ (y .solid .faces))) →
+  pub laid-number : (counted : Bool) (v : Verdict) (r : ℕ) → r ≡ numberBy v → v ≡ verdictOf (check counted (y .precision) (K.solidAt s′ (y .solid .points) ps′ cs′ (y .solid .faces))) →
       r ≡ numberOf (check counted (y .precision) (solidAt l (y .solid)))
   laid-number counted v r h g =
       let q : K.solidAt s′ (y .solid .points) ps′ cs′ (y .solid .faces) ≡ solidAt l (y .solid) = rw (sE, cE, pE) (solid-mean l 17 (y .solid) (laid-placed l y e .0) s cs ps sR cR pR) in
-      h ∙ ap verdictNumber g ∙ number-of (check counted (y .precision) (K.solidAt s′ (y .solid .points) ps′ cs′ (y .solid .faces))) ∙ ap (λ z. numberOf (check counted (y .precision) z)) q
+      h ∙ ap numberBy g ∙ number-of (check counted (y .precision) (K.solidAt s′ (y .solid .points) ps′ cs′ (y .solid .faces))) ∙ ap (λ z. numberOf (check counted (y .precision) z)) q
 
 -- ---- the whole
 

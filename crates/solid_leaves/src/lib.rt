@@ -1,7 +1,6 @@
 // The check of a cell's bytes, for tests that call it from outside.
 use job::CellLaid;
 use job::CellLayout;
-use refusal::Verdict;
 ghost use mathlib.Core.Path.{_≡_};
 ghost use Prim.Native.Nat.{_≤_};
 ghost use lib.ListN.{length};
@@ -9,17 +8,8 @@ ghost use lib.Dec.{eqb};
 ghost use Rattle.refusal.specs.Outcome.{ok, numberOf};
 ghost use Rattle.job.specs.Read.{cellLayout, solidAt};
 ghost use Rattle.solid_check.specs.Check.{check};
-ghost use Rattle.solid_leaves.specs.Cells.{verdictNumber, roomy, cellNumber};
+ghost use Rattle.solid_leaves.specs.Cells.{roomy, cellNumber};
 ghost use Rattle.solid_leaves.specs.Unpacked.{Roomy};
-
-fn number(v: Verdict) -> u64
-    ensures { λ r. ⌜ r ≡ verdictNumber v ⌝ }
-{
-    match v {
-        Verdict::Fine => 0,
-        Verdict::Refused(r) => r.number,
-    }
-}
 
 fn is_roomy(
     points: usize,
@@ -84,7 +74,7 @@ fn check_laid(
         nodes,
         cuts,
     );
-    number(v)
+    lent::number_by(v)
 }
 
 // 01's number for a cell's bytes, with the counts where `counted` is 1; the other slices are work memory, 12 where one is too short.

@@ -32,7 +32,7 @@ use Rattle.job.specs.Points.{length-bodies}
 use Rattle.pack.specs.Flat.{flat, coordinates, pointsFrom}
 use Rattle.writer.specs.Rows.{row, Rowing, rowing-start, rowing-turn, rowing-end, length-row}
 use Rattle.answer.specs.Laws.{then-sets, length-count}
-use Rattle.answer.specs.Told.{told, written}
+use Rattle.ended.specs.Ends.{toldOf, written}
 use Rattle.ears.specs.declared.Triangle.{Triangle}
 use Rattle.mesh.specs.declared.Meshed.{Meshed}
 use Rattle.mesh.specs.declared.Triples.{Triples}
@@ -84,7 +84,7 @@ unfoldable pub drawing : Meshed → Outcome (List ℕ)
 drawing m = heard (m .verdict) (row triangleAnswer (trianglesIn (m .triples)))
 
 pub drawn-not : (o : Outcome (List ℕ)) (r : ℕ) (e : Refusal) (s : List ℕ) → o ≡ refused e → r ≡ e .number → Drawn o r s s
-unfolding told written
+unfolding toldOf written
 drawn-not o r e s p q = rw p (record { number = q; bytes = refl })
 
 pub refused-drawn : (m : Meshed) (e : Refusal) (r : ℕ) (s : List ℕ) → m .verdict ≡ Refused e → r ≡ e .number → Drawn (drawing m) r s s
@@ -92,7 +92,7 @@ unfolding drawing heard
 refused-drawn m e r s p q = drawn-not (drawing m) r e s (ap (λ v. heard v (row triangleAnswer (trianglesIn (m .triples)))) p) q
 
 pub fine-drawn : (m : Meshed) (n r : ℕ) (s s′ : List ℕ) → m .verdict ≡ Fine → n ≡ length (row triangleAnswer (trianglesIn (m .triples))) → s′ ≡ sets s 0 (row triangleAnswer (trianglesIn (m .triples))) → r ≡ 256 * n → Drawn (drawing m) r s s′
-unfolding drawing heard told written
+unfolding drawing heard toldOf written
 fine-drawn m n r s s′ p k e q = rw p (record { number = q ∙ ap (λ x. 256 * x) k; bytes = e })
 
 -- ---- the corners out of the bytes

@@ -11,7 +11,7 @@ use Rattle.words.specs.Little.{digits}
 use Rattle.job.specs.Bytes.{Facet}
 use Rattle.job.specs.Read.{readFacet}
 use Rattle.writer.specs.Rows.{row}
-use Rattle.answer.specs.Told.{told, written}
+use Rattle.ended.specs.Ends.{toldOf, written}
 use Rattle.ears.specs.declared.Triangle.{Triangle}
 use Rattle.mesh.specs.declared.Triples.{Triples}
 use Rattle.mesh.specs.Mesh.{meshOf}
@@ -42,7 +42,7 @@ meshCall size l = then (readFacet l) (meshFacet size)
 
 -- what is handed back: the number with how many bytes, and the answer memory
 pub record Drawn (o : Outcome (List ℕ)) (r : ℕ) (s s′ : List ℕ) : Type 0 where
-  pub number : r ≡ told o
+  pub number : r ≡ toldOf o
   pub bytes : s′ ≡ written o s
 
 -- the triangles of the code's answer

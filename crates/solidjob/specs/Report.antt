@@ -2,16 +2,15 @@
 use mathlib.Core.Path.{_≡_, refl, sym, ap, _∙_}
 use mathlib.Core.Bool.{true}
 use mathlib.Core.List.{List, [], append-nil}
-use Prim.Native.Nat.{ℕ, _≤_, _<_}
+use Prim.Native.Nat.{ℕ, _≤_}
 use native.Mathlib.Omega.{arith}
 use lib.ListN.{length, take}
 use lib.Seq.{sets, length-sets, length-take-le, sets-eq, take-at}
 use Rattle.io.specs.Counts.{Counts}
 use Rattle.refusal.specs.declared.Refusal.{Refusal}
-use Rattle.refusal.specs.declared.Verdict.{Verdict}
-use Rattle.refusal.specs.declared.Verdict.the-variants.{Fine, Refused}
 use Rattle.refusal.specs.Outcome.{Outcome, ok, refused}
 use Rattle.space.specs.Shapes.{Face}
+use Rattle.lent.specs.Lent.{numberBy}
 use Rattle.ended.specs.declared.Ended.{Ended}
 use Rattle.ended.specs.Ends.{stopped, endedOf, written}
 use Rattle.job.specs.declared.Layout.{Layout}
@@ -26,10 +25,7 @@ use Rattle.lines.specs.Bodies.{fusedLines, lines-bodies}
 use Rattle.fuse_call.specs.Calls.{fuseLaid}
 use Rattle.fuse_served.specs.Entry.{fuseEntry}
 use Rattle.fuse_served.specs.Laws.{entry-opened, entry-made, entry-refused}
-
-unfoldable pub numberBy : Verdict → ℕ
-numberBy Fine = 0
-numberBy (Refused r) = r .number
+use Rattle.solidjob.specs.Short.{entry-short}
 
 -- "A refusal prints the first line alone, with its number"
 unfoldable pub printed : Outcome (List ℕ) → List ℕ
@@ -41,9 +37,9 @@ unfoldable pub report : List ℕ → List ℕ
 report job = printed (fuseEntry true 720 job)
 
 -- of an answer the lines of its bodies are printed, each count the length of its list
-pub report-bodies : (job : List ℕ) (bs : List (List (List Face))) → fuseEntry true 720 job ≡ ok (fusedAnswer bs) → length (fusedAnswer bs) < 4294967296 → report job ≡ fusedLines bs
+pub report-bodies : (job : List ℕ) (bs : List (List (List Face))) → fuseEntry true 720 job ≡ ok (fusedAnswer bs) → report job ≡ fusedLines bs
 unfolding report printed
-report-bodies job bs e h = ap printed e ∙ lines-bodies bs h
+report-bodies job bs e = ap printed e ∙ lines-bodies bs (omega (arith, entry-short true 720 job (fusedAnswer bs) e))
 
 -- ---- the code
 

@@ -2,7 +2,6 @@
 use ended::Ended;
 use job::Laid;
 use job::Layout;
-use refusal::Verdict;
 ghost use mathlib.Core.Path.{_≡_};
 ghost use Prim.Native.Nat.{_≤_};
 ghost use lib.ListN.{length};
@@ -11,7 +10,7 @@ ghost use Rattle.io.specs.Counts.{Counts};
 ghost use Rattle.ended.specs.Ends.{endedOf, written};
 ghost use Rattle.intake.specs.Layouts.{Stood};
 ghost use Rattle.fuse_call.specs.Calls.{fuseLaid};
-ghost use Rattle.solidjob.specs.Report.{numberBy, report, Done};
+ghost use Rattle.solidjob.specs.Report.{report, Done};
 
 // A job that was read, fused; the room is the call's own.
 fn fuse_laid(job: &[u8], y: Layout, answer: &mut [u8]) -> Ended
@@ -82,15 +81,6 @@ fn fuse_job(job: &[u8], answer: &mut [u8]) -> Ended
     }
 }
 
-fn number_by(v: Verdict) -> u64
-    ensures { λ r. ⌜ r ≡ numberBy v ⌝ }
-{
-    match v {
-        Verdict::Fine => 0,
-        Verdict::Refused(r) => r.number,
-    }
-}
-
 // Room for what is printed: 14 bytes for each of an answer's 46,080, and 100.
 fn page() -> [u8; 645220] {
     [0; 645220]
@@ -106,7 +96,7 @@ fn put_report(job: &[u8], text: &mut [u8]) -> usize
     let e = fuse_job(job, &mut answer);
     let v = e.verdict;
     let n = e.bytes;
-    lines::put_lines(number_by(v), &answer[..n], text)
+    lines::put_lines(lent::number_by(v), &answer[..n], text)
 }
 
 // A byte more than a job can have is read, so that a longer one is refused.

@@ -1,4 +1,5 @@
 use mathlib.Core.Path.{_∙_}
+use native.Mathlib.Omega.{arith}
 use Rattle.clear.specs.Clear.{zeros-same, floats-same}
 use Rattle.solid_cells.specs.Laws.{entry-ends}
 use borrow.Author.Needs.{needs}
@@ -24,7 +25,7 @@ zero-counts3-requires : tie.Need-zero-counts3-requires
 zero-counts3-requires c κs = search needs
 
 told-by-requires : tie.Need-told-by-requires
-told-by-requires c κs = search needs
+told-by-requires c κs = omega (arith, c .before .before .before .before .before .before .before .before .before .before .before .before .before .before .before .before .before .before .before .before .before .before .before .before .before .before .before .before .before .before .before .before .before .before .before .before .before .before .before .before .before .before .before .before .before .before .before .before .before .before .before .before .before .before .before .before .before .before .before .before .before .before .before .before .before .before .before .before .before .before .before .before .before .before .before .before .served .ensures .0 .1)
 
 same-length : tie.Need-same-length
 same-length c = c .before .before .before .before .before .before .before .before .before .before .before .before .before .before .before .before .before .before .before .before .before .before .before .before .before .before .before .before .before .before .before .before .before .before .before .before .before .before .before .before .before .before .before .zero3 .kept .0 ∙ c .before .before .before .before .before .before .before .before .before .before .before .before .before .before .before .before .before .before .before .before .before .before .before .before .before .before .before .before .before .before .before .before .before .before .before .before .before .before .before .before .before .before .before .before .before .before .before .before .before .before .before .before .before .before .before .before .before .before .before .before .before .before .before .before .before .before .before .before .before .before .before .before .before .before .before .before .before .served .kept .1 .1 .1 .0
@@ -78,7 +79,7 @@ returns c =
     let Z2 = Z3 .before .before .before .before .before .before .before .before .before .before .before .before .before in
     let Z1 = Z2 .before .before .before .before .before .before .before .before .before .before .before in
     let Y = Z1 .before .before .before .before .before .before .before .before .before .before .before .before .before .before .before .before .before .before .before .before .before .before .before .before .before .before .before .before .before .before .before .before .before .before in
-    let E = entry-ends _ _ _ _ _ _ _ _ (Y .before .before .before .before .before .before .before .before .before .before .before .before .before .before .before .before .is-lent .ensures) (Y .served .ensures .0) (Y .served .ensures .1) (c .told-by .ensures) in (
+    let E = entry-ends _ _ _ _ _ _ _ _ (Y .before .before .before .before .before .before .before .before .before .before .before .before .before .before .before .before .is-lent .ensures) (Y .served .ensures .0 .0) (Y .served .ensures .1) (c .told-by .ensures) in (
       E .0,
       (
         E .1,

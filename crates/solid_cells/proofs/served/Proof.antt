@@ -1,6 +1,6 @@
 use mathlib.Core.Path.{sym, _∙_}
 use lib.ListN.{length}
-use Rattle.solid_cells.specs.Laws.{lent-is, entry-opened, entry-made, entry-refused}
+use Rattle.solid_cells.specs.Laws.{lends-low, lent-is, entry-opened, entry-made, entry-refused}
 use borrow.Author.Needs.{needs}
 use Rattle.solid_cells.proofs.served.Statement.{statement}
 use Rattle.solid_cells.proofs.served.Tie as tie
@@ -68,14 +68,18 @@ same-length-15 c = c .before .before .before .before .before .before .before .be
 
 returns : tie.Need-returns
 returns c =
-    let A = c .before .before .before .before .before .before .before .before .before .before .before .before .before .before .before .before .before .before .before .before .before .before .before .before .before .before .before .before .before .before .before .before .before .before .before .before .before .before .before .before .before .before .before .before .before .before .before .before .before .before .before .before .before .before .before .before .before .before .before .before .before .before .before .before .before .before .args in
-    let E = c .before .before .before .before .before .before .before .before .before .before .before .before .before .before .before .before .before .before .before .before .before .before .before .before .before .before .before .before .before .before .answer-laid .ensures in
-    entry-made (A .enough) (A .limit) (A .job .now) _ _ _ (A .answer .now) _ (c .before .before .before .before .before .before .before .before .before .before .before .before .before .before .before .before .before .before .before .before .before .before .before .before .before .before .before .before .before .before .before .before .before .before .before .before .before .before .before .before .before .before .before .before .before .before .before .before .before .open-job .ensures) (c .before .before .before .before .before .before .before .before .before .before .before .before .before .before .before .before .before .before .before .before .before .before .before .before .before .before .before .before .before .before .before .before .before .before .before .before .before .before .before .before .before .before .before .before .before .before .before .read .given .1) (E .0) (E .1)
+    let S = c .before .before .before .before .before .before .before .before .before .before .before .before .before .before .before .before .before .before .before .before .before .before .before .before .before .before .before .before .before .before .before .before .before .before .before .before .before .before .before .before .before .before .before .before .before .before .before .before .before .before .before .before .before .before .before .before .before .before .before .before .before .before .before .before .before .before in
+    let A = S .args in
+    let q = entry-opened (A .enough) (A .job .now) _ _ (c .before .before .before .before .before .before .before .before .before .before .before .before .before .before .before .before .before .before .before .before .before .before .before .before .before .before .before .before .before .before .before .before .before .before .before .before .before .before .before .before .before .before .before .before .before .before .before .before .before .open-job .ensures) (c .before .before .before .before .before .before .before .before .before .before .before .before .before .before .before .before .before .before .before .before .before .before .before .before .before .before .before .before .before .before .before .before .before .before .before .before .before .before .before .before .before .before .before .before .before .before .before .read .given .1) in
+    entry-made (A .enough) (A .limit) (A .job .now) _ _ _ (A .answer .now) _ (c .before .before .before .before .before .before .before .before .before .before .before .before .before .before .before .before .before .before .before .before .before .before .before .before .before .before .before .before .before .before .before .before .before .before .before .before .before .before .before .before .before .before .before .before .before .before .before .before .before .open-job .ensures) (c .before .before .before .before .before .before .before .before .before .before .before .before .before .before .before .before .before .before .before .before .before .before .before .before .before .before .before .before .before .before .before .before .before .before .before .before .before .before .before .before .before .before .before .before .before .before .before .read .given .1) (lends-low (A .limit) (length (A .answer .now)) (length (A .rest .now)) (length (A .spare .now)) (length (A .dst .now)) (length (A .held .now)) (length (A .slots .now)) (length (A .counts .now)) (length (A .sizes .now)) (length (A .order .now)) (length (A .chain .now)) (length (A .head .now)) (length (A .seen .now)) (length (A .work .now)) (length (A .nodes .now)) (length (A .cuts .now)) (sym (S .pre) ∙ q .0)) (c .before .before .before .before .before .before .before .before .before .before .before .before .before .before .before .before .before .before .before .before .before .before .before .before .before .before .before .before .before .before .answer-laid .ensures)
+
+stop-requires : tie.Need-stop-requires
+stop-requires c κs = search needs
 
 returns-2 : tie.Need-returns-2
 returns-2 c =
-    let A = c .before .before .before .before .before .before .before .before .before .before .before .before .before .before .before .before .before .before .before .before .args in
-    entry-refused (A .enough) (A .limit) (A .job .now) _ _ (A .answer .now) (c .before .before .before .open-job .ensures) (c .before .read2 .given .1)
+    let A = c .before .before .before .before .before .before .before .before .before .before .before .before .before .before .before .before .before .before .before .before .before .args in
+    entry-refused (A .enough) (A .limit) (A .job .now) _ _ _ (A .answer .now) (c .before .before .before .before .open-job .ensures) (c .before .before .read2 .given .1) (c .stop .ensures)
 
 pub served-spec : {M : Type 1} → statement M
 served-spec =
@@ -85,6 +89,7 @@ served-spec =
     enum-known-read
     answer-laid-requires
     enum-known-read-2
+    stop-requires
     same-length
     same-length-2
     same-length-3

@@ -34,8 +34,8 @@ check-requires c κs =
       ((omega (arith, p, R .d), omega (arith, p, R .e), omega (arith, p, R .f)), w),
     )
 
-number-requires : tie.Need-number-requires
-number-requires c κs = search needs
+number-by-requires : tie.Need-number-by-requires
+number-by-requires c κs = search needs
 
 same-length : tie.Need-same-length
 same-length c = search needs
@@ -72,7 +72,7 @@ returns c =
     let S = c .before .before .before .before .before .before .before .before .before .before .before .before .before .before .before .before .before .before .before .before .before .before .before .before .before .before .before .before .before .before .before .before .before .before .before .before .before .before .before .before .before .before .before .before .before .before .before .before .before .before in
     let A = S .args in
     let r = laid-room (A .job .now) (A .y) (S .pre .0) (S .pre .1) in
-    laid-number (A .job .now) (A .y) (S .pre .0) (A .points .now) _ (A .counts .now) _ (A .places .now) _ (r .0) (r .1) (r .2) (c .before .before .before .before .before .before .before .before .before .before .before .before .before .before .before .before .before .before .before .before .before .before .before .before .before .before .before .before .before .before .before .before .before .before .before .unpack-points .ensures) (c .before .before .before .before .before .before .before .before .before .before .before .before .before .before .before .before .before .before .before .before .before .before .before .before .before .before .before .before .before .before .unpack-faces .ensures .0) (c .before .before .before .before .before .before .before .before .before .before .before .before .before .before .before .before .before .before .before .before .before .before .before .before .before .before .before .before .before .before .unpack-faces .ensures .1) _ _ _ (c .number .ensures) (c .before .before .before .before .before .before .before .before .before .before .before .before .before .before .before .check .ensures)
+    laid-number (A .job .now) (A .y) (S .pre .0) (A .points .now) _ (A .counts .now) _ (A .places .now) _ (r .0) (r .1) (r .2) (c .before .before .before .before .before .before .before .before .before .before .before .before .before .before .before .before .before .before .before .before .before .before .before .before .before .before .before .before .before .before .before .before .before .before .before .unpack-points .ensures) (c .before .before .before .before .before .before .before .before .before .before .before .before .before .before .before .before .before .before .before .before .before .before .before .before .before .before .before .before .before .before .unpack-faces .ensures .0) (c .before .before .before .before .before .before .before .before .before .before .before .before .before .before .before .before .before .before .before .before .before .before .before .before .before .before .before .before .before .before .unpack-faces .ensures .1) _ _ _ (c .number-by .ensures) (c .before .before .before .before .before .before .before .before .before .before .before .before .before .before .before .check .ensures)
 
 pub check-laid-spec : {M : Type 1} → statement M
 check-laid-spec =
@@ -81,7 +81,7 @@ check-laid-spec =
     unpack-points-requires
     unpack-faces-requires
     check-requires
-    number-requires
+    number-by-requires
     same-length
     same-length-2
     same-length-3

@@ -1,8 +1,8 @@
 use mathlib.Core.Path.{sym, ap}
-use Rattle.solidjob.specs.Report.{numberBy}
+use Rattle.lent.specs.Lent.{numberBy}
 use borrow.Author.Needs.{needs}
-use Rattle.solidjob.proofs.number_by.Statement.{statement}
-use Rattle.solidjob.proofs.number_by.Tie as tie
+use Rattle.lent.proofs.number_by.Statement.{statement}
+use Rattle.lent.proofs.number_by.Tie as tie
 
 enum-told : tie.Need-enum-told
 enum-told c = search needs
