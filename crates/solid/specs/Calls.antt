@@ -8,7 +8,7 @@ use Rattle.ended.specs.Ends as E
 use Rattle.solid_cells.specs.Entry as C
 use Rattle.fuse_lent.specs.Lent.{lends}
 use Rattle.fuse_served.specs.Entry as F
-use Rattle.fuse_cleared.specs.Cleared.{Cleared}
+use Rattle.solid_fuse.specs.Cleared.{Cleared}
 use Rattle.solid_offset.specs.Entries as O
 use Rattle.solid_mesh.specs.Mesh.{Drawn, meshCall}
 

@@ -1,8 +1,8 @@
 use mathlib.Core.Path.{_∙_}
 use Rattle.clear.specs.Clear.{zeros-same, floats-same}
 use borrow.Author.Needs.{needs}
-use Rattle.fuse_cleared.proofs.half_cleared.Statement.{statement}
-use Rattle.fuse_cleared.proofs.half_cleared.Tie as tie
+use Rattle.solid_fuse.proofs.half_cleared.Statement.{statement}
+use Rattle.solid_fuse.proofs.half_cleared.Tie as tie
 
 served-requires : tie.Need-served-requires
 served-requires c κs = search needs
