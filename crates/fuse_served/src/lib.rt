@@ -1,9 +1,10 @@
-// The call that fuses but for the clearing of its work memory: the test of what is lent, the job read, the call.
+// The call that fuses but for the clearing of its work memory: the test of what is lent, the job read, its solids in rooms, then the bytes
+// of the bodies. All slices but the answer are work memory; that of the second solid is the call's own.
 use ended::Ended;
 use job::Laid;
 use refusal::Verdict;
 ghost use mathlib.Core.Path.{_≡_};
-ghost use Prim.Native.Nat.{_≤_};
+ghost use Prim.Native.Nat.{_*_, _≤_};
 ghost use lib.ListN.{length};
 ghost use Rattle.ended.specs.Ends.{endedOf, written};
 ghost use Rattle.fuse_lent.specs.Lent.{lends};
@@ -36,9 +37,11 @@ pub fn served(
     shells: &mut [u64],
     answer: &mut [u8],
 ) -> Ended
-    ensures { λ r. ⌜ (r ≡ endedOf (fuseEntry (lends limit (length (now (answer .entry))) (length (now (rest .entry))) (length (now (spare .entry))) (length (now (dst .entry))) (length (now (held .entry))) (length (now (slots .entry))) (length (now (counts .entry))) (length (now (sizes .entry))) (length (now (seats .entry))) (length (now (lengths .entry))) (length (now (owners .entry))) (length (now (cells .entry))) (length (now (cuts .entry))) (length (now (runs .entry))) (length (now (keys .entry))) (length (now (begins .entry))) (length (now (ord .entry))) (length (now (ends .entry))) (length (now (marks .entry))) (length (now (out .entry))) (length (now (many .entry))) (length (now (shells .entry)))) limit (now (job .entry)))) × (r .bytes ≤ 274877906944) ⌝ }
+    ensures { λ r. ⌜ (r ≡ endedOf (fuseEntry (lends limit (length (now (answer .entry))) (length (now (rest .entry))) (length (now (spare .entry))) (length (now (dst .entry))) (length (now (held .entry))) (length (now (slots .entry))) (length (now (counts .entry))) (length (now (sizes .entry))) (length (now (seats .entry))) (length (now (lengths .entry))) (length (now (owners .entry))) (length (now (cells .entry))) (length (now (cuts .entry))) (length (now (runs .entry))) (length (now (keys .entry))) (length (now (begins .entry))) (length (now (ord .entry))) (length (now (ends .entry))) (length (now (marks .entry))) (length (now (out .entry))) (length (now (many .entry))) (length (now (shells .entry)))) limit (now (job .entry)))) × (r .bytes ≤ 274877906944) × (r .bytes ≤ 64 * limit) ⌝ }
     ensures { λ _. ⌜ now (answer .exit) ≡ written (fuseEntry (lends limit (length (now (answer .entry))) (length (now (rest .entry))) (length (now (spare .entry))) (length (now (dst .entry))) (length (now (held .entry))) (length (now (slots .entry))) (length (now (counts .entry))) (length (now (sizes .entry))) (length (now (seats .entry))) (length (now (lengths .entry))) (length (now (owners .entry))) (length (now (cells .entry))) (length (now (cuts .entry))) (length (now (runs .entry))) (length (now (keys .entry))) (length (now (begins .entry))) (length (now (ord .entry))) (length (now (ends .entry))) (length (now (marks .entry))) (length (now (out .entry))) (length (now (many .entry))) (length (now (shells .entry)))) limit (now (job .entry))) (now (answer .entry)) ⌝ }
 {
+    let mut src = [0.0; 1920];
+    let mut corners = [0u64; 64];
     let enough = fuse_lent::is_lent(
         limit,
         answer.len(),
@@ -66,33 +69,50 @@ pub fn served(
     );
     let read = jobs::open_job(job, enough);
     match read {
-        Laid::Made(y) => fuse_call::answer_laid(
-            job,
-            y,
-            limit,
-            rest,
-            spare,
-            dst,
-            held,
-            slots,
-            counts,
-            sizes,
-            seats,
-            lengths,
-            owners,
-            cells,
-            cuts,
-            runs,
-            keys,
-            begins,
-            ord,
-            ends,
-            marks,
-            out,
-            many,
-            shells,
-            answer,
-        ),
+        Laid::Made(y) => {
+            let t = y.precision;
+            let pair = jobs::take_both(job, y, rest, held, &mut src, &mut corners);
+            let v = pair.verdict;
+            let Verdict::Fine = v else {
+                return Ended {
+                    verdict: v,
+                    bytes: 0,
+                };
+            };
+            let o = y.operation;
+            let op = cells_call::operation_as(o);
+            fuse_answer::fuse_answer(
+                op,
+                t,
+                limit,
+                pair.first,
+                &src,
+                &corners,
+                pair.second,
+                rest,
+                spare,
+                dst,
+                held,
+                slots,
+                counts,
+                sizes,
+                seats,
+                lengths,
+                owners,
+                cells,
+                cuts,
+                runs,
+                keys,
+                begins,
+                ord,
+                ends,
+                marks,
+                out,
+                many,
+                shells,
+                answer,
+            )
+        }
         Laid::Refused(r) => ended::stop(r),
     }
 }

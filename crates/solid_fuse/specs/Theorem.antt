@@ -14,8 +14,7 @@ use Rattle.fused.specs.Bodies.{fuseCells, fusedOf}
 use Rattle.fused.specs.Theorem.{Fusion, fusion}
 use Rattle.fused_bytes.specs.Bytes.{fusedAnswer, answerOf}
 use Rattle.fuse_answer.specs.Call.{fuseCall}
-use Rattle.fuse_call.specs.Calls.{fuseBoth, fuseLaid}
-use Rattle.fuse_served.specs.Entry.{fuseEntry}
+use Rattle.fuse_served.specs.Entry.{fuseBoth, fuseLaid, fuseEntry}
 
 -- the job, its checked solids, the pieces and the bodies behind an answer
 pub record Answer (enough : Bool) (room : ℕ) (l bytes : List ℕ) : Type 0 where

@@ -1,30 +1,23 @@
 -- What the program prints for a job (01, "Job file").
 use mathlib.Core.Path.{_≡_, refl, sym, ap, _∙_}
-use mathlib.Core.Bool.{true}
+use mathlib.Core.Bool.{Bool, true}
 use mathlib.Core.List.{List, [], append-nil}
-use Prim.Native.Nat.{ℕ, _≤_}
+use Prim.Native.Nat.{ℕ, _*_, _≤_}
 use native.Mathlib.Omega.{arith}
 use lib.ListN.{length, take}
 use lib.Seq.{sets, length-sets, length-take-le, sets-eq, take-at}
 use Rattle.io.specs.Counts.{Counts}
-use Rattle.refusal.specs.declared.Refusal.{Refusal}
 use Rattle.refusal.specs.Outcome.{Outcome, ok, refused}
 use Rattle.space.specs.Shapes.{Face}
 use Rattle.lent.specs.Lent.{numberBy}
 use Rattle.ended.specs.declared.Ended.{Ended}
-use Rattle.ended.specs.Ends.{stopped, endedOf, written}
-use Rattle.job.specs.declared.Layout.{Layout}
-use Rattle.job.specs.declared.Laid.{Laid}
-use Rattle.job.specs.declared.Laid.the-variants as J
-use Rattle.job.specs.Read.{laid}
-use Rattle.intake.specs.Layouts.{Stood}
-use Rattle.jobs.specs.Jobs.{openJob}
+use Rattle.ended.specs.Ends.{endedOf, written}
 use Rattle.fused_bytes.specs.Bytes.{fusedAnswer}
 use Rattle.lines.specs.Text.{answerLine, walk, linesOf}
 use Rattle.lines.specs.Bodies.{fusedLines, lines-bodies}
-use Rattle.fuse_call.specs.Calls.{fuseLaid}
+use Rattle.fuse_lent.specs.Lent.{lends}
+use Rattle.fuse_lent.specs.Laws.{lends-all}
 use Rattle.fuse_served.specs.Entry.{fuseEntry}
-use Rattle.fuse_served.specs.Laws.{entry-opened, entry-made, entry-refused}
 use Rattle.solidjob.specs.Short.{entry-short}
 
 -- "A refusal prints the first line alone, with its number"
@@ -67,19 +60,17 @@ done l a a′ r e n w k m =
       ),
     )
 
-module _ (l : List ℕ) (c : Laid) (e : laid c ≡ openJob true l) where
-  pub job-stood : (y : Layout) → c ≡ J.Made y → Stood l (y .first) × Stood l (y .second)
-  job-stood y g = let q = entry-opened true true 720 l refl c e y g in (q .1, q .2)
+-- what is lent is enough for a room of 720 corners
+abbrev roomy : ℕ → Bool
+roomy n = lends 720 n 4080 8736 8736 848 848 848 721 721 720 720 720 721 2160 1440 721 720 720 721 720 720 720
 
-  pub job-fused : (y : Layout) (a a′ : List ℕ) (r : Ended) → c ≡ J.Made y → ((r ≡ endedOf (fuseLaid l 720 y)) × (r .bytes ≤ 46080)) × (a′ ≡ written (fuseLaid l 720 y) a) → length a ≡ 46080 → length a′ ≡ length a → Done l r a′
-  job-fused y a a′ r g h k m =
-      let n = entry-made true true 720 l refl c e y r a a′ g (omega arith) ((h .0 .0, omega (arith, h .0 .1)), h .1) in
-      done l a a′ r (n .0 .0) (h .0 .1) (n .1) k m
+is-roomy : (n : ℕ) → n ≡ 46080 → roomy n ≡ true
+is-roomy n e = lends-all 720 n 4080 8736 8736 848 848 848 721 721 720 720 720 721 2160 1440 721 720 720 721 720 720 720 (record { low = omega arith; answer-fits = omega (arith, e); rest-fits = omega arith; spare-fits = omega arith; dst-fits = omega arith; held-fits = omega arith; slots-fit = omega arith; counts-fit = omega arith; sizes-fit = omega arith; seats-fit = omega arith; lengths-fit = omega arith; owners-fit = omega arith; cells-fit = omega arith; cuts-fit = omega arith; runs-fit = omega arith; keys-fit = omega arith; begins-fit = omega arith; ord-fits = omega arith; ends-fit = omega arith; marks-fit = omega arith; out-fits = omega arith; many-fit = omega arith; shells-fit = omega arith })
 
-  pub job-refused : (x : Refusal) (a : List ℕ) (r : Ended) → c ≡ J.Refused x → r ≡ stopped x → length a ≡ 46080 → Done l r a
-  job-refused x a r g h k =
-      let n = entry-refused true true 720 l refl c e x r a g h in
-      done l a a r (n .0 .0) (omega (arith, ap (λ z. z .bytes) h)) (n .1) k refl
+pub job-fused : (l a a′ : List ℕ) (r : Ended) → ((r ≡ endedOf (fuseEntry (roomy (length a)) 720 l)) × (r .bytes ≤ 274877906944) × (r .bytes ≤ 64 * 720)) × (a′ ≡ written (fuseEntry (roomy (length a)) 720 l) a) → length a ≡ 46080 → length a′ ≡ length a → Done l r a′
+job-fused l a a′ r h k m =
+    let q = is-roomy (length a) k in
+    done l a a′ r (h .0 .0 ∙ ap (λ b. endedOf (fuseEntry b 720 l)) q) (omega (arith, h .0 .2)) (h .1 ∙ ap (λ b. written (fuseEntry b 720 l) a) q) k m
 
 printed-is : (o : Outcome (List ℕ)) → linesOf (numberBy (endedOf o .verdict)) (bytesOf o) ≡ printed o
 unfolding numberBy printed endedOf bytesOf linesOf walk

@@ -17,8 +17,7 @@ use Rattle.intake.specs.Laws.{check-few}
 use Rattle.jobs.specs.Jobs.{openJob, Both, withSecond, bothOf}
 use Rattle.cells_call.specs.Calls.{operationAs}
 use Rattle.fuse_answer.specs.Short.{call-short}
-use Rattle.fuse_call.specs.Calls.{fuseBoth, fuseLaid}
-use Rattle.fuse_served.specs.Entry.{fuseEntry}
+use Rattle.fuse_served.specs.Entry.{fuseBoth, fuseLaid, fuseEntry}
 
 -- every face of a checked solid has three corners or more
 checked-wide : (t : Precision) (s : Solid) (c : Cell) → check true t s ≡ ok c → Wide c

@@ -1,23 +1,16 @@
 // The program: a job from standard input, fused in a room of 720 corners, and what document 01 has it print.
 use ended::Ended;
-use job::Laid;
-use job::Layout;
 ghost use mathlib.Core.Path.{_≡_};
 ghost use Prim.Native.Nat.{_≤_};
 ghost use lib.ListN.{length};
 ghost use lib.Seq.{sets};
 ghost use Rattle.io.specs.Counts.{Counts};
-ghost use Rattle.ended.specs.Ends.{endedOf, written};
-ghost use Rattle.intake.specs.Layouts.{Stood};
-ghost use Rattle.fuse_call.specs.Calls.{fuseLaid};
 ghost use Rattle.solidjob.specs.Report.{report, Done};
 
-// A job that was read, fused; the room is the call's own.
-fn fuse_laid(job: &[u8], y: Layout, answer: &mut [u8]) -> Ended
-    requires { ⌜ Stood (now job) (y .first) × Stood (now job) (y .second) ⌝ }
+// A job fused in a room of the call's own. The bytes of the answer stand at the front of its memory, none for a refusal.
+fn fuse_job(job: &[u8], answer: &mut [u8]) -> Ended
     requires { ⌜ length (now answer) ≡ 46080 ⌝ }
-    ensures { λ r. ⌜ (r ≡ endedOf (fuseLaid (now (job .entry)) 720 y)) × (r .bytes ≤ 46080) ⌝ }
-    ensures { λ _. ⌜ now (answer .exit) ≡ written (fuseLaid (now (job .entry)) 720 y) (now (answer .entry)) ⌝ }
+    ensures { λ r. ⌜ Done (now (job .entry)) r (now (answer .exit)) ⌝ }
 {
     let mut rest = [0.0; 4080];
     let mut spare = [0.0; 8736];
@@ -40,9 +33,8 @@ fn fuse_laid(job: &[u8], y: Layout, answer: &mut [u8]) -> Ended
     let mut out = [0u64; 720];
     let mut many = [0u64; 720];
     let mut shells = [0u64; 720];
-    fuse_call::answer_laid(
+    fuse_served::served(
         job,
-        y,
         720,
         &mut rest,
         &mut spare,
@@ -67,18 +59,6 @@ fn fuse_laid(job: &[u8], y: Layout, answer: &mut [u8]) -> Ended
         &mut shells,
         answer,
     )
-}
-
-// The bytes of the answer stand at the front of its memory, none for a refusal.
-fn fuse_job(job: &[u8], answer: &mut [u8]) -> Ended
-    requires { ⌜ length (now answer) ≡ 46080 ⌝ }
-    ensures { λ r. ⌜ Done (now (job .entry)) r (now (answer .exit)) ⌝ }
-{
-    let read = jobs::open_job(job, true);
-    match read {
-        Laid::Made(y) => fuse_laid(job, y, answer),
-        Laid::Refused(r) => ended::stop(r),
-    }
 }
 
 // Room for what is printed: 14 bytes for each of an answer's 46,080, and 100.

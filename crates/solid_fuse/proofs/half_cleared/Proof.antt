@@ -85,7 +85,7 @@ same-length-22 c = c .before .before .before .before .before .before .before .be
 returns : tie.Need-returns
 returns c =
     let S = c .before .before .before .before .before .before .before .before .before .before .before .before .before .before .before .before .before .before .before .before .before .before .before .before .before .before .before .before .before .before .before .before .before .before .before .before .before .before .before .before .before .before .before .before .before .before .before .before .before .before .before .before .before .before .before .before .before .before .before .before .before .before .before .before .before .before .before .before .before .before .before .before .before .before .before .before .before .before .before .before .served in (
-      S .ensures .0,
+      (S .ensures .0 .0, S .ensures .0 .1),
       (
         S .ensures .1,
         record {
