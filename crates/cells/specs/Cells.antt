@@ -7,8 +7,8 @@ use Rattle.space.specs.Shapes.{Cell, part}
 use Rattle.stack.specs.Stacks.{addCell, addPart}
 pub use Rattle.carving.specs.Carvings.{Carving, carving}
 unfoldable pub use Rattle.carving.specs.Carvings.{carveOn, carveCell, carvePart, carve, clipPart, clipFace}
-use Rattle.cells.specs.declared.Operation.{Operation}
-use Rattle.cells.specs.declared.Operation.the-variants.{Intersection, Difference, Union}
+use Rattle.job.specs.declared.Operation.{Operation}
+use Rattle.job.specs.declared.Operation.the-variants.{Intersection, Difference, Union}
 
 unfoldable pub minus : Precision → ℕ → Cell → Cell → Outcome (List Cell)
 minus t room a b = then (walk (carve t room) (record { rest = part a; out = [] }) b) (λ s. ok (s .out))

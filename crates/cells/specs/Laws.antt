@@ -19,8 +19,8 @@ use Rattle.cell.specs.Laws.{Ahead, ahead-next, ahead-face, ahead-done}
 use Rattle.stack.specs.declared.Stack.{Stack}
 use Rattle.stack.specs.Stacks.{addCell, addPart, stackOf, listAt, Listed}
 use Rattle.stack.specs.Laws.{listed-is, holds, listed-none, listed-refused}
-use Rattle.cells.specs.declared.Operation.{Operation}
-use Rattle.cells.specs.declared.Operation.the-variants.{Intersection, Difference, Union}
+use Rattle.job.specs.declared.Operation.{Operation}
+use Rattle.job.specs.declared.Operation.the-variants.{Intersection, Difference, Union}
 use Rattle.carving.specs.declared.Rest.{Rest}
 use Rattle.carving.specs.declared.Carved.{Carved}
 use Rattle.cells.specs.Cells.{carving, carvePart, carve, minus, clipPart, clipFace, common, both, cells}

@@ -3,6 +3,7 @@
 // these are work memory but for the list that an answer tells.
 pub use carving::Carved;
 pub use carving::Rest;
+use job::Operation;
 use refusal::Verdict;
 use space::Precision;
 use stack::Stack;
@@ -17,12 +18,6 @@ ghost use Rattle.clip.specs.Clips.{Given, Wide};
 ghost use Rattle.stack.specs.Stacks.{addPart, Listed, Places, Work, stackOf};
 ghost use Rattle.carving.specs.Rests.{restAt, Sits, Place};
 ghost use Rattle.cells.specs.Cells.{minus, common, both, cells};
-
-pub enum Operation {
-    Intersection,
-    Difference,
-    Union,
-}
 
 // The pieces of the first cell, which stands in `rest`, outside the second one: its floats stand in `src` from `from` on, its
 // faces' numbers of corners in `corners` from `j` on.

@@ -4,7 +4,7 @@ use mathlib.Core.List.{List}
 use Rattle.refusal.specs.Outcome.{Outcome, then}
 use Rattle.space.specs.declared.Precision.{Precision}
 use Rattle.space.specs.Shapes.{Cell}
-use Rattle.cells.specs.declared.Operation.{Operation}
+use Rattle.job.specs.declared.Operation.{Operation}
 use Rattle.cells.specs.Cells.{cells}
 use Rattle.finish.specs.Finish.{finish}
 use Rattle.cell_answer.specs.Solids.{solidsAnswer}

@@ -11,7 +11,7 @@ use Rattle.room.specs.Steps.{then-then}
 use Rattle.stack.specs.declared.Stack.{Stack}
 use Rattle.stack.specs.Stacks.{listAt, Listed}
 use Rattle.stack.specs.Laws.{listed-is}
-use Rattle.cells.specs.declared.Operation.{Operation}
+use Rattle.job.specs.declared.Operation.{Operation}
 use Rattle.cells.specs.Cells.{cells}
 use Rattle.finish.specs.Finish.{finish, solidsTold, Finished}
 use Rattle.finish.specs.Laws.{told-is}

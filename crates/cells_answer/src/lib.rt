@@ -1,6 +1,6 @@
 // The cell Boolean as a call: from two checked cells in rooms to the bytes of the answer. The first cell stands in `rest` with `held`,
 // the second one in `src` with `corners`. All slices but the answer are work memory; those that the cut needs no more serve the check.
-use cells::Operation;
+use job::Operation;
 use ended::Ended;
 use space::Precision;
 ghost use mathlib.Core.Path.{_≡_};

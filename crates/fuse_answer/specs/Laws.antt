@@ -11,7 +11,7 @@ use Rattle.space.specs.Shapes.{Cell}
 use Rattle.stack.specs.declared.Stack.{Stack}
 use Rattle.stack.specs.Stacks.{listAt, Listed, Places, Holds}
 use Rattle.stack.specs.Laws.{listed-is, holds}
-use Rattle.cells.specs.declared.Operation.{Operation}
+use Rattle.job.specs.declared.Operation.{Operation}
 use Rattle.cells.specs.Rests.{Place}
 use Rattle.pieces.specs.Pieces.{piecesOf}
 use Rattle.arrangement.specs.Arrangements as R

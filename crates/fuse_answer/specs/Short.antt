@@ -9,7 +9,7 @@ use Rattle.space.specs.declared.Precision.{Precision}
 use Rattle.space.specs.Shapes.{Cell}
 use Rattle.polygon.specs.Members.{same-ok, then-ok}
 use Rattle.clip.specs.Clips.{Wide}
-use Rattle.cells.specs.declared.Operation.{Operation}
+use Rattle.job.specs.declared.Operation.{Operation}
 use Rattle.pieces.specs.Pieces.{piecesOf}
 use Rattle.fused.specs.Bodies.{fuseCells, fusedOf}
 use Rattle.fused_bytes.specs.Bytes.{fusedAnswer, answerOf}

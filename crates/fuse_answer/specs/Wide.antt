@@ -17,8 +17,8 @@ use Rattle.clip.specs.Clips.{Wide}
 use Rattle.clip.specs.Bounds.{part-wide}
 use Rattle.stack.specs.Stacks.{addCell, addPart, addCut}
 use Rattle.carving.specs.Carvings.{Carving, carvePart, carveCell, carveOn, carve, clipPart, clipFace}
-use Rattle.cells.specs.declared.Operation.{Operation}
-use Rattle.cells.specs.declared.Operation.the-variants.{Intersection, Difference, Union}
+use Rattle.job.specs.declared.Operation.{Operation}
+use Rattle.job.specs.declared.Operation.the-variants.{Intersection, Difference, Union}
 use Rattle.cells.specs.Cells.{minus, common, both, cells}
 use Rattle.split.specs.Splits.{budget, splitCell}
 use Rattle.splits.specs.Planes.{splitOn, splitPlane, splitAll, planesOf}

@@ -1,6 +1,6 @@
 // A fused Boolean as a call: from two checked cells in rooms to the bytes of the bodies. The first cell stands in `rest` with `held`, the
 // second one in `src` with `corners`. All slices but the answer are work memory; those that the pieces need no more serve the fusing.
-use cells::Operation;
+use job::Operation;
 use ended::Ended;
 use space::Precision;
 use stack::Stack;

@@ -10,7 +10,7 @@ use Rattle.space.specs.Shapes.{Face, Cell}
 use Rattle.sums.specs.Keys.{range}
 use Rattle.bodies.specs.Fusing.{Facet, Sense, Bodies, fuse}
 use Rattle.volume.specs.Volume.{volumeSign}
-use Rattle.cells.specs.declared.Operation.{Operation}
+use Rattle.job.specs.declared.Operation.{Operation}
 use Rattle.pieces.specs.Pieces.{piecesOf}
 use Rattle.arrangement.specs.Arrangements.{facesOf, Arrangement, arrangeCells}
 

@@ -15,7 +15,7 @@ use Rattle.room.specs.Laws.{sets-append, cell-back}
 use Rattle.stack.specs.declared.Stack.{Stack}
 use Rattle.stack.specs.Stacks.{listAt, Listed, Places}
 use Rattle.stack.specs.Laws.{listed-is}
-use Rattle.cells.specs.declared.Operation.{Operation}
+use Rattle.job.specs.declared.Operation.{Operation}
 use Rattle.cells.specs.Cells.{cells}
 use Rattle.cells.specs.Rests.{Place}
 use Rattle.splits.specs.Planes.{splitAll, planesAt, planesFloats, planesOf}

@@ -1,6 +1,6 @@
 // The pieces of a Boolean operation of two cells: its cells, split by every plane of both. The first cell stands in `rest` and is
 // work memory once its planes are copied; so is everything else that is lent, but for the list that an answer tells.
-use cells::Operation;
+use job::Operation;
 use space::Precision;
 use stack::Stack;
 ghost use mathlib.Core.Path.{_≡_};

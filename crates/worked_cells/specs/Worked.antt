@@ -10,7 +10,7 @@ use Rattle.space.specs.Vector.{fair, fairPoint}
 use Rattle.space.specs.Shapes.{Cell, part, Solid, corners, allCorners}
 use Rattle.clip.specs.Cuts.{clip}
 use Rattle.stack.specs.Stacks.{addCell, addPart}
-use Rattle.cells.specs.declared.Operation.the-variants.{Intersection}
+use Rattle.job.specs.declared.Operation.the-variants.{Intersection}
 use Rattle.cells.specs.Cells.{cells, common, clipPart, clipFace}
 use Rattle.indexed.specs.Indexed.{indexed}
 use Rattle.sums.specs.Keys.{nbr, nbrs}
