@@ -1,2 +1,3 @@
+pub mod Bodies
 pub mod Short
 pub mod Report

@@ -14,7 +14,7 @@ use Rattle.ended.specs.declared.Ended.{Ended}
 use Rattle.ended.specs.Ends.{endedOf, written}
 use Rattle.fused_bytes.specs.Bytes.{fusedAnswer}
 use Rattle.lines.specs.Text.{answerLine, walk, linesOf}
-use Rattle.lines.specs.Bodies.{fusedLines, lines-bodies}
+use Rattle.solidjob.specs.Bodies.{fusedLines, lines-bodies}
 use Rattle.fuse_lent.specs.Lent.{lends}
 use Rattle.fuse_lent.specs.Laws.{lends-all}
 use Rattle.fuse_served.specs.Entry.{fuseEntry}
