@@ -10,8 +10,6 @@ use Rattle.space.specs.Shapes.{Face, Cell}
 use Rattle.sums.specs.Keys.{range}
 use Rattle.bodies.specs.Fusing.{Facet, Sense, Bodies, fuse}
 use Rattle.volume.specs.Volume.{volumeSign}
-use Rattle.job.specs.declared.Operation.{Operation}
-use Rattle.pieces.specs.Pieces.{piecesOf}
 use Rattle.arrangement.specs.Arrangements.{facesOf, Arrangement, arrangeCells}
 
 -- what is read past the end of a list of faces
@@ -39,12 +37,9 @@ module _ (a : Arrangement) where
   unfoldable pub facetIn : Cell → ℕ → Face
   facetIn c i = record { plane = getD c i noFace .plane; points = cornersIn i }
 
--- 000, `body_boolean`: the cells of the operation, split by the planes of both solids, arranged and fused; "bodies, their shells, their facets"
+-- 000, `body_boolean`: the cells, arranged and fused; "bodies, their shells, their facets"
 abbrev pub drawnIn : List Cell → Arrangement → Bodies → List (List (List Face))
 drawnIn cs a bs = map (map (map (facetIn a (facesOf cs)))) bs
 
 unfoldable pub fuseCells : Precision → ℕ → List Cell → Outcome (List (List (List Face)))
 fuseCells t room cs = then (arrangeCells t room cs) (λ a. then (fuseIn a (length cs)) (λ bs. ok (drawnIn cs a bs)))
-
-unfoldable pub fusedOf : Operation → Precision → ℕ → Cell → Cell → Outcome (List (List (List Face)))
-fusedOf op t room a b = then (piecesOf op t room a b) (fuseCells t room)
