@@ -18,7 +18,6 @@ use Rattle.indexed.specs.declared.Counted.the-variants as C
 use Rattle.indexed.specs.Stored.{flat}
 use Rattle.stack.specs.Stacks.{cellsCounts, cellsSizes, cellsAt, Lies}
 use Rattle.merge.specs.Merge.{ownersFrom}
-use Rattle.inside.specs.Slices.{Roomy}
 use Rattle.arrange.specs.Arrange.{arrange}
 use Rattle.groups.specs.Groups.{bounds}
 use Rattle.arrangement.specs.declared.Layout.{Layout}
@@ -86,20 +85,18 @@ pub record Stands (room k faces : ℕ) (d : List Float) (n z : List ℕ) : Type 
   pub cells : length (cellsAt d 0 n (take k z)) ≡ k
   pub faces-are : length (cellsCounts (cellsAt d 0 n (take k z))) ≡ faces
 
--- the slices are long enough for the points, the corners, the vertices inside an edge and the cycles' lengths
-pub record Work (room faces : ℕ) (p : List Float) (k : List ℕ) (a b : List Float) (l z : List ℕ) : Type 0 where
+-- the slices are long enough for the points, the corners and the cycles' lengths
+pub record Work (room faces : ℕ) (p : List Float) (k z : List ℕ) : Type 0 where
   pub low : room ≤ 4611686018427387904
   pub points : 3 * room ≤ length p
   pub corners : room ≤ length k
-  pub work : Roomy 4096 a b l
   pub lengths : faces ≤ length z
 
 -- and all of them, for whatever list fits the room
-pub record Lent (room : ℕ) (p : List Float) (k : List ℕ) (a b : List Float) (l c z s w : List ℕ) : Type 0 where
+pub record Lent (room : ℕ) (p : List Float) (k c z s w : List ℕ) : Type 0 where
   pub low : room ≤ 4611686018427387904
   pub points : 3 * room ≤ length p
   pub corners : room ≤ length k
-  pub work : Roomy 4096 a b l
   pub cycles : room ≤ length c
   pub lengths : room ≤ length z
   pub starts : room < length s

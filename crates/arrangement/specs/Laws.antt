@@ -30,6 +30,7 @@ use Rattle.stack.specs.Laws.{all-corners-from, length-cellsSizes, wide-corners}
 use Rattle.merge.specs.Merge.{merge, ownersFrom}
 use Rattle.merge.specs.Laws.{Owned}
 use Rattle.solids.specs.Frames.{facesAt, Placing}
+use Rattle.inside.specs.Slices.{Roomy}
 use Rattle.arrange.specs.Arrange.{conformAll, arrange}
 use Rattle.arrange.specs.Facets as F
 use Rattle.arrange.specs.Facets.{Arranged}
@@ -212,8 +213,8 @@ module _ (t : Precision) (c : Cell) (p₀ : List Float) (k₀ : List ℕ) (p : L
       record { is = g ∙ ap layoutOf (sym o); points = λ s w. never-ok (sym o ∙ w); cycles = λ s w. never-ok (sym o ∙ w); lengths = λ s w. never-ok (sym o ∙ w) }
 
 -- what is asked of the slices
-pub faces-fit : (room faces : ℕ) (d : List Float) (n : List ℕ) (p : List Float) (k : List ℕ) (a b : List Float) (l z : List ℕ) → Facing room faces d n → Work room faces p k a b l z → Fits d n 0 0 faces p k
-faces-fit room faces d n p k a b l z f w = record {
+pub faces-fit : (room faces : ℕ) (d : List Float) (n : List ℕ) (p : List Float) (k z : List ℕ) → Facing room faces d n → Work room faces p k z → Fits d n 0 0 faces p k
+faces-fit room faces d n p k z f w = record {
   faces = omega (arith, f .listed);
   floats = f .within;
   points = omega (arith, f .fit, w .points);
@@ -234,8 +235,8 @@ module _ {t : Precision} {room faces : ℕ} {d : List Float} {counts : List ℕ}
       let h : 3 * length (M .solid .points) ≤ length p₀ = omega (arith, merge-most t (cellAt d 0 (countsAt counts 0 faces)) (M .solid) (M .is), f .fit) in
       ap (λ l. pointsAt l 0 n) (M .points) ∙ ap (pointsAt (sets p₀ 0 (floatsOf (M .solid .points))) 0) (M .many) ∙ points-stored p₀ (M .solid .points) h
 
-  pub conform-asks : (a b : List Float) (l z : List ℕ) → Work room faces p₀ k₀ a b l z → length p ≡ length p₀ → F.Given room p n k counts faces a b l z
-  conform-asks a b l z w e =
+  pub conform-asks : (a b : List Float) (l z : List ℕ) → Work room faces p₀ k₀ z → Roomy 4096 a b l → length p ≡ length p₀ → F.Given room p n k counts faces a b l z
+  conform-asks a b l z w i e =
       let four : n ≤ 4096 = omega (arith, M .many, merge-below t (cellAt d 0 (countsAt counts 0 faces)) (M .solid) (M .is) .2) in
       record {
         room = w .low;
@@ -244,7 +245,7 @@ module _ {t : Precision} {room faces : ℕ} {d : List Float} {counts : List ℕ}
         faces-in = f .listed;
         faces-out = w .lengths;
         cycles = cycles-are .0;
-        lent = record { lows = omega (arith, w .work .lows); highs = omega (arith, w .work .highs); places = omega (arith, w .work .places) };
+        lent = record { lows = omega (arith, i .lows); highs = omega (arith, i .highs); places = omega (arith, i .places) };
       }
 
   -- whatever conforming answers
@@ -338,8 +339,8 @@ module _ (t : Precision) {room k faces : ℕ} {d : List Float} {n z : List ℕ} 
   list-laid s₀ w₀ s w ew es = laid-by (arrange t room (cellAt d 0 (countsAt n 0 faces))) s₀ w₀ s w refl (h .is) ew es
 
 -- what is lent for a list serves for its faces
-pub lent-work : {room faces : ℕ} {p : List Float} {k : List ℕ} {a b : List Float} {l c z s w : List ℕ} → Lent room p k a b l c z s w → faces ≤ room → Work room faces p k a b l z
-lent-work m h = record { low = m .low; points = m .points; corners = m .corners; work = m .work; lengths = omega (arith, m .lengths) }
+pub lent-work : {room faces : ℕ} {p : List Float} {k c z s w : List ℕ} → Lent room p k c z s w → faces ≤ room → Work room faces p k z
+lent-work m h = record { low = m .low; points = m .points; corners = m .corners; lengths = omega (arith, m .lengths) }
 
 module _ {room : ℕ} {s : Stack} {d : List Float} {n z : List ℕ} (h : Holds room s d n z) where
   told : s .verdict ≡ D.Fine → listAt s d n z ≡ ok (cellsAt d 0 n (take (s .cells) z))

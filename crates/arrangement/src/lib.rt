@@ -58,15 +58,15 @@ fn arrange_faces(
     faces: usize,
     points: &mut [f64],
     corners: &mut [u64],
-    lows: &mut [f64],
-    highs: &mut [f64],
-    places: &mut [u64],
     cycles: &mut [u64],
     lengths: &mut [u64],
 ) -> Layout
-    requires { ⌜ Facing limit faces (now d) (now counts) × Work limit faces (now points) (now corners) (now lows) (now highs) (now places) (now lengths) ⌝ }
+    requires { ⌜ Facing limit faces (now d) (now counts) × Work limit faces (now points) (now corners) (now lengths) ⌝ }
     ensures { λ r. ⌜ Shaped (arrange t limit (cellAt (now (d .entry)) 0 (countsAt (now (counts .entry)) 0 faces))) (now (points .entry)) (now (cycles .entry)) (now (lengths .entry)) (now (points .exit)) (now (cycles .exit)) (now (lengths .exit)) r ⌝ }
 {
+    let mut lows = [0.0; 4096];
+    let mut highs = [0.0; 4096];
+    let mut places = [0u64; 4096];
     let merged = merge::merge(t, d, counts, faces, points, corners);
     match merged {
         Counted::Made(n) => {
@@ -78,9 +78,9 @@ fn arrange_faces(
                 corners,
                 counts,
                 faces,
-                lows,
-                highs,
-                places,
+                &mut lows,
+                &mut highs,
+                &mut places,
                 cycles,
                 lengths,
             );
@@ -117,31 +117,15 @@ fn arrange_list(
     sizes: &[u64],
     points: &mut [f64],
     corners: &mut [u64],
-    lows: &mut [f64],
-    highs: &mut [f64],
-    places: &mut [u64],
     cycles: &mut [u64],
     lengths: &mut [u64],
     starts: &mut [u64],
     owners: &mut [u64],
 ) -> Layout
-    requires { ⌜ Stands limit k faces (now d) (now counts) (now sizes) × Lent limit (now points) (now corners) (now lows) (now highs) (now places) (now cycles) (now lengths) (now starts) (now owners) ⌝ }
+    requires { ⌜ Stands limit k faces (now d) (now counts) (now sizes) × Lent limit (now points) (now corners) (now cycles) (now lengths) (now starts) (now owners) ⌝ }
     ensures { λ r. ⌜ Laid (arrangeCells t limit (cellsAt (now (d .entry)) 0 (now (counts .entry)) (take k (now (sizes .entry))))) (now (points .entry)) (now (cycles .entry)) (now (starts .entry)) (now (owners .entry)) (now (points .exit)) (now (cycles .exit)) (now (starts .exit)) (now (owners .exit)) r ⌝ }
 {
-    let r = arrange_faces(
-        t,
-        limit,
-        d,
-        counts,
-        faces,
-        points,
-        corners,
-        lows,
-        highs,
-        places,
-        cycles,
-        lengths,
-    );
+    let r = arrange_faces(t, limit, d, counts, faces, points, corners, cycles, lengths);
     let f = r.facets;
     merge::owners_of(sizes, k, owners);
     starts_of(lengths, f, starts);
@@ -158,15 +142,12 @@ pub fn arrangement(
     sizes: &[u64],
     points: &mut [f64],
     corners: &mut [u64],
-    lows: &mut [f64],
-    highs: &mut [f64],
-    places: &mut [u64],
     cycles: &mut [u64],
     lengths: &mut [u64],
     starts: &mut [u64],
     owners: &mut [u64],
 ) -> Layout
-    requires { ⌜ Holds limit s (now d) (now counts) (now sizes) × Lent limit (now points) (now corners) (now lows) (now highs) (now places) (now cycles) (now lengths) (now starts) (now owners) ⌝ }
+    requires { ⌜ Holds limit s (now d) (now counts) (now sizes) × Lent limit (now points) (now corners) (now cycles) (now lengths) (now starts) (now owners) ⌝ }
     ensures { λ r. ⌜ Laid (then (listAt s (now (d .entry)) (now (counts .entry)) (now (sizes .entry))) (arrangeCells t limit)) (now (points .entry)) (now (cycles .entry)) (now (starts .entry)) (now (owners .entry)) (now (points .exit)) (now (cycles .exit)) (now (starts .exit)) (now (owners .exit)) r ⌝ }
 {
     let v = s.verdict;
@@ -183,9 +164,6 @@ pub fn arrangement(
             sizes,
             points,
             corners,
-            lows,
-            highs,
-            places,
             cycles,
             lengths,
             starts,

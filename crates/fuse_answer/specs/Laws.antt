@@ -32,18 +32,17 @@ module _ (room : ℕ) (answer : List ℕ) (rest spare dst : List Float) (held sl
     record { place = L .spare-fits; slots = L .slots-fit; seats = L .seats-fit },
   )
 
-  -- after the pieces, with arrays for the vertices inside an edge, and the front of `ends`
-  pub lent-fuse : {P : Type 0} (rest′ : List Float) (held′ slots′ sizes′ seats′ : List ℕ) (lows highs : List Float) (places ends′ : List ℕ) →
+  -- after the pieces, with the front of `ends`
+  pub lent-fuse : {P : Type 0} (rest′ : List Float) (held′ slots′ sizes′ seats′ ends′ : List ℕ) →
       length rest′ ≡ length rest → length held′ ≡ length held → length slots′ ≡ length slots → length sizes′ ≡ length sizes → length seats′ ≡ length seats →
-      4096 ≤ length lows → 4096 ≤ length highs → 4096 ≤ length places → length ends′ ≡ room → P →
-      P × R.Lent room rest′ held′ lows highs places slots′ lengths seats′ owners × Tools room held′ cells cuts lengths runs keys begins ord ends′ sizes′ marks out many shells × (64 * room ≤ length answer)
-  lent-fuse rest′ held′ slots′ sizes′ seats′ lows highs places ends′ er eh es ez et a b k ee h = (
+      length ends′ ≡ room → P →
+      P × R.Lent room rest′ held′ slots′ lengths seats′ owners × Tools room held′ cells cuts lengths runs keys begins ord ends′ sizes′ marks out many shells × (64 * room ≤ length answer)
+  lent-fuse rest′ held′ slots′ sizes′ seats′ ends′ er eh es ez et ee h = (
     h,
     record {
       low = omega (arith, L .low);
       points = omega (arith, er, L .rest-fits);
       corners = omega (arith, eh, L .held-fits);
-      work = record { lows = a; highs = b; places = k };
       cycles = omega (arith, es, L .slots-fit);
       lengths = L .lengths-fit;
       starts = omega (arith, et, L .seats-fit);

@@ -1,7 +1,7 @@
 // A fused Boolean as a call: from two checked cells in rooms to the bytes of the bodies. The first cell stands in `rest` with `held`, the
 // second one in `src` with `corners`. All slices but the answer are work memory; those that the pieces need no more serve the fusing.
-use job::Operation;
 use ended::Ended;
+use job::Operation;
 use space::Precision;
 use stack::Stack;
 ghost use mathlib.Core.Path.{_≡_};
@@ -107,9 +107,6 @@ pub fn fuse_answer(
     ensures { λ r. ⌜ (r ≡ endedOf (fuseCall op t limit (cellAt (now (rest .entry)) 0 (countsAt (now (held .entry)) 0 faces)) (cellAt (now (src .entry)) 0 (countsAt (now (corners .entry)) 0 others)))) × (r .bytes ≤ 64 * limit) ⌝ }
     ensures { λ _. ⌜ now (answer .exit) ≡ written (fuseCall op t limit (cellAt (now (rest .entry)) 0 (countsAt (now (held .entry)) 0 faces)) (cellAt (now (src .entry)) 0 (countsAt (now (corners .entry)) 0 others))) (now (answer .entry)) ⌝ }
 {
-    let mut lows = [0.0; 4096];
-    let mut highs = [0.0; 4096];
-    let mut places = [0u64; 4096];
     let list = pieces_here(
         op,
         t,
@@ -136,9 +133,6 @@ pub fn fuse_answer(
         sizes,
         rest,
         held,
-        &mut lows,
-        &mut highs,
-        &mut places,
         slots,
         lengths,
         seats,

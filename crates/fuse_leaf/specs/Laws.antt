@@ -69,13 +69,12 @@ module _ (t : Precision) (room k : ℕ) (d : List Float) (n z a₀ : List ℕ) w
 
 -- the call's own memory is enough
 module _ (room : ℕ) (h : room ≤ 4608) where
-  pub arranging : (p : List Float) (co : List ℕ) (lo hi : List Float) (pl cy le st ow : List ℕ) → length p ≡ 13824 → length co ≡ 4608 → length lo ≡ 4096 → length hi ≡ 4096 → length pl ≡ 4096 → length cy ≡ 4608 → length le ≡ 4608 →
-      length st ≡ 4609 → length ow ≡ 4608 → Lent room p co lo hi pl cy le st ow
-  arranging p co lo hi pl cy le st ow hp hco hlo hhi hpl hcy hle hst how = record {
+  pub arranging : (p : List Float) (co cy le st ow : List ℕ) → length p ≡ 13824 → length co ≡ 4608 → length cy ≡ 4608 → length le ≡ 4608 →
+      length st ≡ 4609 → length ow ≡ 4608 → Lent room p co cy le st ow
+  arranging p co cy le st ow hp hco hcy hle hst how = record {
     low = omega arith;
     points = omega arith;
     corners = omega arith;
-    work = record { lows = omega arith; highs = omega arith; places = omega arith };
     cycles = omega arith;
     lengths = omega arith;
     starts = omega arith;

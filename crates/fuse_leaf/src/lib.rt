@@ -33,9 +33,6 @@ fn fuse_here(
 {
     let mut points = [0.0; 13824];
     let mut corners = [0u64; 4608];
-    let mut lows = [0.0; 4096];
-    let mut highs = [0.0; 4096];
-    let mut places = [0u64; 4096];
     let mut cycles = [0u64; 4608];
     let mut lengths = [0u64; 4608];
     let mut starts = [0u64; 4609];
@@ -60,9 +57,6 @@ fn fuse_here(
         sizes,
         &mut points,
         &mut corners,
-        &mut lows,
-        &mut highs,
-        &mut places,
         &mut cycles,
         &mut lengths,
         &mut starts,

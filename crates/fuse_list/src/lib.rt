@@ -91,9 +91,6 @@ pub fn fuse_list(
     sizes: &mut [u64],
     points: &mut [f64],
     corners: &mut [u64],
-    lows: &mut [f64],
-    highs: &mut [f64],
-    places: &mut [u64],
     cycles: &mut [u64],
     lengths: &mut [u64],
     starts: &mut [u64],
@@ -110,7 +107,7 @@ pub fn fuse_list(
     many: &mut [u64],
     shells: &mut [u64],
 ) -> Listing
-    requires { ⌜ Holds limit list (now d) (now counts) (now sizes) × Lent limit (now points) (now corners) (now lows) (now highs) (now places) (now cycles) (now lengths) (now starts) (now owners) × Tools limit (now corners) (now cells) (now cuts) (now lengths) (now runs) (now k) (now s) (now ord) (now ends) (now sizes) (now marks) (now out) (now many) (now shells) ⌝ }
+    requires { ⌜ Holds limit list (now d) (now counts) (now sizes) × Lent limit (now points) (now corners) (now cycles) (now lengths) (now starts) (now owners) × Tools limit (now corners) (now cells) (now cuts) (now lengths) (now runs) (now k) (now s) (now ord) (now ends) (now sizes) (now marks) (now out) (now many) (now shells) ⌝ }
     ensures { λ r. ⌜ Told t limit (listAt list (now (d .entry)) (now (counts .entry)) (now (sizes .entry))) (now (points .entry)) (now (cycles .entry)) (now (starts .entry)) (now (owners .entry)) (now (out .entry)) (now (many .entry)) (now (shells .entry)) (now (points .exit)) (now (cycles .exit)) (now (starts .exit)) (now (owners .exit)) (now (out .exit)) (now (many .exit)) (now (shells .exit)) r ⌝ }
 {
     let n = list.cells;
@@ -123,9 +120,6 @@ pub fn fuse_list(
         sizes,
         points,
         corners,
-        lows,
-        highs,
-        places,
         cycles,
         lengths,
         starts,

@@ -77,9 +77,6 @@ pub fn fused_bytes(
     sizes: &mut [u64],
     points: &mut [f64],
     corners: &mut [u64],
-    lows: &mut [f64],
-    highs: &mut [f64],
-    places: &mut [u64],
     cycles: &mut [u64],
     lengths: &mut [u64],
     starts: &mut [u64],
@@ -97,7 +94,7 @@ pub fn fused_bytes(
     shells: &mut [u64],
     answer: &mut [u8],
 ) -> Ended
-    requires { ⌜ Holds limit list (now d) (now counts) (now sizes) × Lent limit (now points) (now corners) (now lows) (now highs) (now places) (now cycles) (now lengths) (now starts) (now owners) × Tools limit (now corners) (now cells) (now cuts) (now lengths) (now runs) (now k) (now s) (now ord) (now ends) (now sizes) (now marks) (now out) (now many) (now shells) × (64 * limit ≤ length (now answer)) ⌝ }
+    requires { ⌜ Holds limit list (now d) (now counts) (now sizes) × Lent limit (now points) (now corners) (now cycles) (now lengths) (now starts) (now owners) × Tools limit (now corners) (now cells) (now cuts) (now lengths) (now runs) (now k) (now s) (now ord) (now ends) (now sizes) (now marks) (now out) (now many) (now shells) × (64 * limit ≤ length (now answer)) ⌝ }
     ensures { λ r. ⌜ (r ≡ endedOf (answerOf (then (listAt list (now (d .entry)) (now (counts .entry)) (now (sizes .entry))) (fuseCells t limit)))) × (r .bytes ≤ 64 * limit) ⌝ }
     ensures { λ _. ⌜ now (answer .exit) ≡ written (answerOf (then (listAt list (now (d .entry)) (now (counts .entry)) (now (sizes .entry))) (fuseCells t limit))) (now (answer .entry)) ⌝ }
 {
@@ -110,9 +107,6 @@ pub fn fused_bytes(
         sizes,
         points,
         corners,
-        lows,
-        highs,
-        places,
         cycles,
         lengths,
         starts,

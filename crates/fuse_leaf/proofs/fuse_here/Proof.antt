@@ -55,20 +55,11 @@ slice-aggregate-fused-bytes-16 c = search needs
 slice-aggregate-fused-bytes-17 : tie.Need-slice-aggregate-fused-bytes-17
 slice-aggregate-fused-bytes-17 c = search needs
 
-slice-aggregate-fused-bytes-18 : tie.Need-slice-aggregate-fused-bytes-18
-slice-aggregate-fused-bytes-18 c = search needs
-
-slice-aggregate-fused-bytes-19 : tie.Need-slice-aggregate-fused-bytes-19
-slice-aggregate-fused-bytes-19 c = search needs
-
-slice-aggregate-fused-bytes-20 : tie.Need-slice-aggregate-fused-bytes-20
-slice-aggregate-fused-bytes-20 c = search needs
-
 fused-bytes-requires : tie.Need-fused-bytes-requires
 fused-bytes-requires c κs =
     let P = c .before .before .before .before .before .before .before .before .before .before .before .before .before .before .before .before .before .before .before .before .before .before .before .before .before .before .pre in (
       P .0,
-      arranging _ (P .1) _ _ _ _ _ _ _ _ _ (omega arith) (omega arith) (omega arith) (omega arith) (omega arith) (omega arith) (omega arith) (omega arith) (omega arith),
+      arranging _ (P .1) _ _ _ _ _ _ (omega arith) (omega arith) (omega arith) (omega arith) (omega arith) (omega arith),
       tooled _ (P .1) _ _ _ _ _ _ _ _ _ _ _ _ _ _ (omega arith) (omega arith) (omega arith) (omega arith) (omega arith) (omega arith) (omega arith) (omega arith) (omega arith) (P .2) (omega arith) (omega arith) (omega arith) (omega arith),
       P .3,
     )
@@ -77,7 +68,7 @@ same-length : tie.Need-same-length
 same-length c = c .before .before .before .before .before .before .before .before .before .before .before .before .before .before .before .before .before .before .before .before .before .before .before .before .fused-bytes .kept .1 .1 .1 .1 .1 .0
 
 same-length-2 : tie.Need-same-length-2
-same-length-2 c = c .before .before .before .before .before .before .before .before .before .before .before .before .before .before .before .before .before .before .before .before .before .before .before .before .fused-bytes .kept .1 .1 .1 .1 .1 .1 .1 .1 .1 .1 .1 .1 .1 .1 .1 .1 .1 .1 .1 .1 .1 .1 .1 .1 .1 .1 .0
+same-length-2 c = c .before .before .before .before .before .before .before .before .before .before .before .before .before .before .before .before .before .before .before .before .before .before .before .before .fused-bytes .kept .1 .1 .1 .1 .1 .1 .1 .1 .1 .1 .1 .1 .1 .1 .1 .1 .1 .1 .1 .1 .1 .1 .1 .0
 
 returns : tie.Need-returns
 returns c =
@@ -105,9 +96,6 @@ fuse-here-spec =
     slice-aggregate-fused-bytes-15
     slice-aggregate-fused-bytes-16
     slice-aggregate-fused-bytes-17
-    slice-aggregate-fused-bytes-18
-    slice-aggregate-fused-bytes-19
-    slice-aggregate-fused-bytes-20
     fused-bytes-requires
     same-length
     same-length-2
