@@ -32,17 +32,12 @@ pub use Rattle.carving.specs.Laws.{clip-inside, left-stays, left-nothing, left-
 pub place-on : (room : ℕ) (d : List Float) (n : List ℕ) (d′ : List Float) (n′ : List ℕ) → Place room d n → length d′ ≡ length d → length n′ ≡ length n → Place room d′ n′
 place-on room d n d′ n′ p a b = record { place = omega (arith, p .place); slots = omega (arith, p .slots) }
 
--- the slices of the remainder's cuts are as long as they were
-pub record Nine (r : List Float) (h : List ℕ) (s : List Float) (l : List ℕ) (f p a : List Float) (o n : List ℕ) (r₀ : List Float) (h₀ : List ℕ) (s₀ : List Float) (l₀ : List ℕ) (f₀ p₀ a₀ : List Float) (o₀ n₀ : List ℕ) : Type 0 where
+-- the rooms of the remainder are as long as they were
+pub record Four (r : List Float) (h : List ℕ) (s : List Float) (l : List ℕ) (r₀ : List Float) (h₀ : List ℕ) (s₀ : List Float) (l₀ : List ℕ) : Type 0 where
   pub rest : length r ≡ length r₀
   pub held : length h ≡ length h₀
   pub spare : length s ≡ length s₀
   pub slots : length l ≡ length l₀
-  pub face : length f ≡ length f₀
-  pub cap : length p ≡ length p₀
-  pub flat : length a ≡ length a₀
-  pub order : length o ≡ length o₀
-  pub chain : length n ≡ length n₀
 
 -- and those of the list
 pub record Three (d : List Float) (n z : List ℕ) (d₀ : List Float) (n₀ z₀ : List ℕ) : Type 0 where

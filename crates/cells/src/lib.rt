@@ -15,7 +15,7 @@ ghost use lib.ListN.{length};
 ghost use Rattle.refusal.specs.Outcome.{then, heard};
 ghost use Rattle.room.specs.Rooms.{cellAt, countsAt};
 ghost use Rattle.clip.specs.Clips.{Given, Wide};
-ghost use Rattle.stack.specs.Stacks.{addPart, Listed, Places, Work, stackOf};
+ghost use Rattle.stack.specs.Stacks.{addPart, Listed, Places, stackOf};
 ghost use Rattle.carving.specs.Rests.{restAt, Sits, Place};
 ghost use Rattle.cells.specs.Cells.{minus, common, both, cells};
 
@@ -37,16 +37,16 @@ pub fn difference(
     dst: &mut [f64],
     counts: &mut [u64],
     sizes: &mut [u64],
-    face: &mut [f64],
-    cap: &mut [f64],
-    flat: &mut [f64],
-    order: &mut [u64],
-    chain: &mut [u64],
 ) -> Stack
     requires { ⌜ Sits faces (now rest) (now held) × Given (now src) from (now corners) j many ⌝ }
-    requires { ⌜ Place limit (now rest) (now held) × Place limit (now spare) (now slots) × Places limit (now dst) (now counts) (now sizes) × Work (now face) (now cap) (now flat) (now order) (now chain) ⌝ }
+    requires { ⌜ Place limit (now rest) (now held) × Place limit (now spare) (now slots) × Places limit (now dst) (now counts) (now sizes) ⌝ }
     ensures { λ r. ⌜ Listed limit (minus t limit (cellAt (now (rest .entry)) 0 (countsAt (now (held .entry)) 0 faces)) (cellAt (now (src .entry)) from (countsAt (now (corners .entry)) j many))) r (now (dst .exit)) (now (counts .exit)) (now (sizes .exit)) ⌝ }
 {
+    let mut face = [0.0; 384];
+    let mut cap = [0.0; 3072];
+    let mut flat = [0.0; 2048];
+    let mut order = [0u64; 1024];
+    let mut chain = [0u64; 2048];
     let mut s = Carved {
         rest: Rest {
             verdict: Verdict::Fine,
@@ -72,11 +72,11 @@ pub fn difference(
             dst,
             counts,
             sizes,
-            face,
-            cap,
-            flat,
-            order,
-            chain,
+            &mut face,
+            &mut cap,
+            &mut flat,
+            &mut order,
+            &mut chain,
         );
         o = o + 12 + 3 * n;
         i += 1;
@@ -134,16 +134,16 @@ pub fn intersection(
     dst: &mut [f64],
     counts: &mut [u64],
     sizes: &mut [u64],
-    face: &mut [f64],
-    cap: &mut [f64],
-    flat: &mut [f64],
-    order: &mut [u64],
-    chain: &mut [u64],
 ) -> Stack
     requires { ⌜ Sits faces (now rest) (now held) × Given (now src) from (now corners) j many ⌝ }
-    requires { ⌜ Place limit (now rest) (now held) × Place limit (now spare) (now slots) × Places limit (now dst) (now counts) (now sizes) × Work (now face) (now cap) (now flat) (now order) (now chain) ⌝ }
+    requires { ⌜ Place limit (now rest) (now held) × Place limit (now spare) (now slots) × Places limit (now dst) (now counts) (now sizes) ⌝ }
     ensures { λ r. ⌜ Listed limit (common t limit (cellAt (now (rest .entry)) 0 (countsAt (now (held .entry)) 0 faces)) (cellAt (now (src .entry)) from (countsAt (now (corners .entry)) j many))) r (now (dst .exit)) (now (counts .exit)) (now (sizes .exit)) ⌝ }
 {
+    let mut face = [0.0; 384];
+    let mut cap = [0.0; 3072];
+    let mut flat = [0.0; 2048];
+    let mut order = [0u64; 1024];
+    let mut chain = [0u64; 2048];
     let mut s = Rest {
         verdict: Verdict::Fine,
         some: true,
@@ -163,11 +163,11 @@ pub fn intersection(
             held,
             spare,
             slots,
-            face,
-            cap,
-            flat,
-            order,
-            chain,
+            &mut face,
+            &mut cap,
+            &mut flat,
+            &mut order,
+            &mut chain,
         );
         o = o + 12 + 3 * n;
         i += 1;
@@ -192,14 +192,9 @@ pub fn unite(
     dst: &mut [f64],
     counts: &mut [u64],
     sizes: &mut [u64],
-    face: &mut [f64],
-    cap: &mut [f64],
-    flat: &mut [f64],
-    order: &mut [u64],
-    chain: &mut [u64],
 ) -> Stack
     requires { ⌜ Sits faces (now rest) (now held) × Given (now src) from (now corners) j many × Wide (cellAt (now src) from (countsAt (now corners) j many)) × (1 ≤ many) × (many ≤ 128) ⌝ }
-    requires { ⌜ Place limit (now rest) (now held) × Place limit (now spare) (now slots) × Places limit (now dst) (now counts) (now sizes) × Work (now face) (now cap) (now flat) (now order) (now chain) ⌝ }
+    requires { ⌜ Place limit (now rest) (now held) × Place limit (now spare) (now slots) × Places limit (now dst) (now counts) (now sizes) ⌝ }
     ensures { λ r. ⌜ Listed limit (both t limit (cellAt (now (rest .entry)) 0 (countsAt (now (held .entry)) 0 faces)) (cellAt (now (src .entry)) from (countsAt (now (corners .entry)) j many))) r (now (dst .exit)) (now (counts .exit)) (now (sizes .exit)) ⌝ }
 {
     let list = difference(
@@ -218,11 +213,6 @@ pub fn unite(
         dst,
         counts,
         sizes,
-        face,
-        cap,
-        flat,
-        order,
-        chain,
     );
     stack::add_cell(limit, src, from, corners, j, many, list, dst, counts, sizes)
 }
@@ -244,14 +234,9 @@ pub fn boolean_cells(
     dst: &mut [f64],
     counts: &mut [u64],
     sizes: &mut [u64],
-    face: &mut [f64],
-    cap: &mut [f64],
-    flat: &mut [f64],
-    order: &mut [u64],
-    chain: &mut [u64],
 ) -> Stack
     requires { ⌜ Sits faces (now rest) (now held) × Given (now src) from (now corners) j many × Wide (cellAt (now src) from (countsAt (now corners) j many)) × (1 ≤ many) × (many ≤ 128) ⌝ }
-    requires { ⌜ Place limit (now rest) (now held) × Place limit (now spare) (now slots) × Places limit (now dst) (now counts) (now sizes) × Work (now face) (now cap) (now flat) (now order) (now chain) ⌝ }
+    requires { ⌜ Place limit (now rest) (now held) × Place limit (now spare) (now slots) × Places limit (now dst) (now counts) (now sizes) ⌝ }
     ensures { λ r. ⌜ Listed limit (cells op t limit (cellAt (now (rest .entry)) 0 (countsAt (now (held .entry)) 0 faces)) (cellAt (now (src .entry)) from (countsAt (now (corners .entry)) j many))) r (now (dst .exit)) (now (counts .exit)) (now (sizes .exit)) ⌝ }
 {
     match op {
@@ -271,11 +256,6 @@ pub fn boolean_cells(
             dst,
             counts,
             sizes,
-            face,
-            cap,
-            flat,
-            order,
-            chain,
         ),
         Operation::Difference => difference(
             t,
@@ -293,11 +273,6 @@ pub fn boolean_cells(
             dst,
             counts,
             sizes,
-            face,
-            cap,
-            flat,
-            order,
-            chain,
         ),
         Operation::Union => unite(
             t,
@@ -315,11 +290,6 @@ pub fn boolean_cells(
             dst,
             counts,
             sizes,
-            face,
-            cap,
-            flat,
-            order,
-            chain,
         ),
     }
 }
