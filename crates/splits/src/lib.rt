@@ -1,5 +1,5 @@
 // `split_cells`: every cell of a list by every plane. A plane's parts go to a second list, which is then copied back. Both lists,
-// and the slices behind them, are work memory but for the list that an answer tells.
+// and the slices behind them, are work memory but for the list that an answer tells; the memory of a cut is the call's own.
 use refusal::Verdict;
 use space::Plane;
 use space::Planed;
@@ -217,16 +217,16 @@ pub fn split_cells(
     spare: &mut [f64],
     slots: &mut [u64],
     seats: &mut [u64],
-    face: &mut [f64],
-    cap: &mut [f64],
-    flat: &mut [f64],
-    order: &mut [u64],
-    chain: &mut [u64],
 ) -> Stack
     requires { ⌜ (12 * n ≤ length (now planes)) × Holds limit list (now dst) (now counts) (now sizes) × Places limit (now dst) (now counts) (now sizes) ⌝ }
-    requires { ⌜ Places limit (now spare) (now slots) (now seats) × Work (now face) (now cap) (now flat) (now order) (now chain) ⌝ }
+    requires { ⌜ Places limit (now spare) (now slots) (now seats) ⌝ }
     ensures { λ r. ⌜ Listed limit (then (listAt list (now (dst .entry)) (now (counts .entry)) (now (sizes .entry))) (splitAll t limit (planesAt (now (planes .entry)) 0 n))) r (now (dst .exit)) (now (counts .exit)) (now (sizes .exit)) ⌝ }
 {
+    let mut face = [0.0; 384];
+    let mut cap = [0.0; 3072];
+    let mut flat = [0.0; 2048];
+    let mut order = [0u64; 1024];
+    let mut chain = [0u64; 2048];
     let mut s = list;
     let mut i = 0;
     while i < n {
@@ -242,11 +242,11 @@ pub fn split_cells(
             spare,
             slots,
             seats,
-            face,
-            cap,
-            flat,
-            order,
-            chain,
+            &mut face,
+            &mut cap,
+            &mut flat,
+            &mut order,
+            &mut chain,
         );
         i += 1;
     }
