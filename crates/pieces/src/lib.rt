@@ -10,7 +10,7 @@ ghost use lib.ListN.{length};
 ghost use lib.Seq.{sets};
 ghost use Rattle.room.specs.Rooms.{cellAt, countsAt};
 ghost use Rattle.clip.specs.Clips.{Given, Wide};
-ghost use Rattle.stack.specs.Stacks.{Listed, Places, Work};
+ghost use Rattle.stack.specs.Stacks.{Listed, Places};
 ghost use Rattle.cells.specs.Rests.{Sits, Place};
 ghost use Rattle.splits.specs.Planes.{planesFloats};
 ghost use Rattle.pieces.specs.Pieces.{piecesOf};
@@ -54,14 +54,9 @@ pub fn pieces(
     spare: &mut [f64],
     slots: &mut [u64],
     seats: &mut [u64],
-    face: &mut [f64],
-    cap: &mut [f64],
-    flat: &mut [f64],
-    order: &mut [u64],
-    chain: &mut [u64],
 ) -> Stack
     requires { ⌜ Sits faces (now rest) (now held) × Given (now src) from (now corners) j many × Wide (cellAt (now src) from (countsAt (now corners) j many)) × (1 ≤ many) × (many ≤ 128) ⌝ }
-    requires { ⌜ (3072 ≤ length (now planes)) × Place limit (now rest) (now held) × Places limit (now dst) (now counts) (now sizes) × Places limit (now spare) (now slots) (now seats) × Work (now face) (now cap) (now flat) (now order) (now chain) ⌝ }
+    requires { ⌜ (3072 ≤ length (now planes)) × Place limit (now rest) (now held) × Places limit (now dst) (now counts) (now sizes) × Places limit (now spare) (now slots) (now seats) ⌝ }
     ensures { λ r. ⌜ Listed limit (piecesOf op t limit (cellAt (now (rest .entry)) 0 (countsAt (now (held .entry)) 0 faces)) (cellAt (now (src .entry)) from (countsAt (now (corners .entry)) j many))) r (now (dst .exit)) (now (counts .exit)) (now (sizes .exit)) ⌝ }
 {
     both_planes(faces, rest, held, src, from, corners, j, many, planes);
@@ -82,11 +77,6 @@ pub fn pieces(
         dst,
         counts,
         sizes,
-        face,
-        cap,
-        flat,
-        order,
-        chain,
     );
     splits::split_cells(
         t,
@@ -100,10 +90,5 @@ pub fn pieces(
         spare,
         slots,
         seats,
-        face,
-        cap,
-        flat,
-        order,
-        chain,
     )
 }
