@@ -15,7 +15,7 @@ use Rattle.lent.specs.Lent.{numberBy, whereFine}
 use Rattle.lent.specs.Laws.{and-left, and-right}
 use Rattle.space.specs.Shapes.{Cell}
 use Rattle.stack.specs.declared.Stack.{Stack}
-use Rattle.stack.specs.Stacks.{stackOf, listAt, Listed, Places, Work}
+use Rattle.stack.specs.Stacks.{stackOf, listAt, Listed, Places}
 use Rattle.stack.specs.Laws.{listed-is}
 use Rattle.split_leaf.specs.Splitting.{splitFits, cellsTold, Alone, Split}
 
@@ -71,9 +71,5 @@ pub whole-planes : (n : ℕ) → 12 * (n / 12) ≤ n
 whole-planes n = omega arith
 
 -- the call's own memory is enough
-pub memory : (room : ℕ) → room ≤ 6400 → (spare face cap flat : List Float) (slots seats order chain : List ℕ) → length spare ≡ 65536 → length slots ≡ 6528 → length seats ≡ 6401 →
-    length face ≡ 384 → length cap ≡ 3072 → length flat ≡ 2048 → length order ≡ 1024 → length chain ≡ 2048 → Places room spare slots seats × Work face cap flat order chain
-memory room h spare face cap flat slots seats order chain hs hl ht hf hc ha ho hn = (
-  record { place = omega arith; slots = omega arith; seats = omega arith },
-  record { face-fits = omega arith; cap-fits = omega arith; hulls = record { flat-fits = omega arith; order-fits = omega arith; chain-fits = omega arith } },
-)
+pub memory : (room : ℕ) → room ≤ 6400 → (spare : List Float) (slots seats : List ℕ) → length spare ≡ 65536 → length slots ≡ 6528 → length seats ≡ 6401 → Places room spare slots seats
+memory room h spare slots seats hs hl ht = record { place = omega arith; slots = omega arith; seats = omega arith }

@@ -65,11 +65,6 @@ pub extern "C" fn leaf_split(
     let mut spare = [0.0; 65536];
     let mut slots = [0u64; 6528];
     let mut seats = [0u64; 6401];
-    let mut face = [0.0; 384];
-    let mut cap = [0.0; 3072];
-    let mut flat = [0.0; 2048];
-    let mut order = [0u64; 1024];
-    let mut chain = [0u64; 2048];
     let fits = split_fits(limit, d.len(), counts.len(), sizes.len(), told.len());
     if !fits {
         return NONE;
@@ -88,11 +83,6 @@ pub extern "C" fn leaf_split(
         &mut spare,
         &mut slots,
         &mut seats,
-        &mut face,
-        &mut cap,
-        &mut flat,
-        &mut order,
-        &mut chain,
     );
     put_stack(told, s)
 }

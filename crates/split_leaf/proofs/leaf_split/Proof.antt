@@ -26,31 +26,16 @@ slice-aggregate-split-cells-2 c = search needs
 slice-aggregate-split-cells-3 : tie.Need-slice-aggregate-split-cells-3
 slice-aggregate-split-cells-3 c = search needs
 
-slice-aggregate-split-cells-4 : tie.Need-slice-aggregate-split-cells-4
-slice-aggregate-split-cells-4 c = search needs
-
-slice-aggregate-split-cells-5 : tie.Need-slice-aggregate-split-cells-5
-slice-aggregate-split-cells-5 c = search needs
-
-slice-aggregate-split-cells-6 : tie.Need-slice-aggregate-split-cells-6
-slice-aggregate-split-cells-6 c = search needs
-
-slice-aggregate-split-cells-7 : tie.Need-slice-aggregate-split-cells-7
-slice-aggregate-split-cells-7 c = search needs
-
-slice-aggregate-split-cells-8 : tie.Need-slice-aggregate-split-cells-8
-slice-aggregate-split-cells-8 c = search needs
-
 split-cells-requires : tie.Need-split-cells-requires
 split-cells-requires c κs =
-    let F = c .before .before .before .before .before .before .before .before .before .before .before .before .before .before .before in
+    let F = c .before .before .before .before .before .before .before .before .before .before in
     let A = F .before .before .before .before .before .before .before .args in
     let E = enough (A .limit) (A .d .now) (A .counts .now) (A .sizes .now) (A .told .now) (sym (F .before .split-fits .ensures) ∙ not-false _ (F .if1 .left)) in
-    ((whole-planes _, holds _ _ _ _ _ _ (c .before .before .before .before .before .before .before .before .before .before .before .list-in .ensures), E .places), memory _ (E .low) _ _ _ _ _ _ _ _ (omega arith) (omega arith) (omega arith) (omega arith) (omega arith) (omega arith) (omega arith) (omega arith))
+    ((whole-planes _, holds _ _ _ _ _ _ (c .before .before .before .before .before .before .list-in .ensures), E .places), memory _ (E .low) _ _ _ (omega arith) (omega arith) (omega arith))
 
 put-stack-requires : tie.Need-put-stack-requires
 put-stack-requires c κs =
-    let F = c .before .before .before .before .before .before .before .before .before .before .before .before .before .before .before .before .before .before .before .before .before .before .before .before .before .before .before .before .before .before .before in
+    let F = c .before .before .before .before .before .before .before .before .before .before .before .before .before .before .before .before .before .before .before .before .before in
     let A = F .before .before .before .before .before .before .before .args in
     enough (A .limit) (A .d .now) (A .counts .now) (A .sizes .now) (A .told .now) (sym (F .before .split-fits .ensures) ∙ not-false _ (F .if1 .left)) .tells
 
@@ -69,9 +54,9 @@ same-length-4 c = search needs
 returns-2 : tie.Need-returns-2
 unfolding splitLent
 returns-2 c =
-    let F = c .before .before .before .before .before .before .before .before .before .before .before .before .before .before .before .before .before .before .before .before .before .before .before .before .before .before .before .before .before .before .before .before .before .before in
+    let F = c .before .before .before .before .before .before .before .before .before .before .before .before .before .before .before .before .before .before .before .before .before .before .before .before in
     let P = c .before .before .put-stack .ensures in
-    split-all _ _ _ _ _ _ _ (sym (F .before .split-fits .ensures) ∙ not-false _ (F .if1 .left)) _ _ _ _ _ _ _ _ _ (c .before .before .before .before .before .before .before .before .before .before .before .before .before .before .before .before .before .before .before .before .before .before .before .before .before .before .before .before .before .before .list-in .ensures) refl (c .before .before .before .before .before .before .before .before .before .before .before .before .before .before .before .before .before .before .split-cells .ensures) (P .0) (P .1)
+    split-all _ _ _ _ _ _ _ (sym (F .before .split-fits .ensures) ∙ not-false _ (F .if1 .left)) _ _ _ _ _ _ _ _ _ (c .before .before .before .before .before .before .before .before .before .before .before .before .before .before .before .before .before .before .before .before .list-in .ensures) refl (c .before .before .before .before .before .before .before .before .before .before .before .before .before .split-cells .ensures) (P .0) (P .1)
 
 pub leaf-split-spec : {M : Type 1} → statement M
 leaf-split-spec =
@@ -83,11 +68,6 @@ leaf-split-spec =
     slice-aggregate-split-cells
     slice-aggregate-split-cells-2
     slice-aggregate-split-cells-3
-    slice-aggregate-split-cells-4
-    slice-aggregate-split-cells-5
-    slice-aggregate-split-cells-6
-    slice-aggregate-split-cells-7
-    slice-aggregate-split-cells-8
     split-cells-requires
     put-stack-requires
     same-length
