@@ -1,5 +1,5 @@
 -- The test tells what is lent.
-use mathlib.Core.Path.{_≡_, sym, ap, _∙_, subst}
+use mathlib.Core.Path.{_≡_, sym, ap, _∙_}
 use mathlib.Core.Bool.{Bool, true, false, _&&_}
 use Prim.Native.Nat.{ℕ, _+_, _*_, _/_, _≤_, _<_}
 use native.Mathlib.Omega.{arith}
@@ -100,8 +100,3 @@ module _ (room answer rest spare dst held slots counts sizes seats lengths owner
       (both _ _ (both _ _ (le _ _ (L .ends-fit)) (lt _ _ (L .marks-fit))) (both _ _ (both _ _ (le _ _ (L .out-fits)) (le _ _ (L .many-fit))) (le _ _ (L .shells-fit)))))
       )
       ))
-
-  -- a slice of the same length serves as well
-  pub lent-taken : Lent room answer rest spare dst held slots counts sizes seats lengths owners cells cuts runs keys begins ord ends marks out many shells → (rest′ held′ : ℕ) → rest′ ≡ rest → held′ ≡ held → Lent room answer rest′ spare dst held′ slots counts sizes seats lengths owners cells cuts runs keys begins ord ends marks out many shells
-  lent-taken L rest′ held′ e h =
-      subst (λ x. Lent room answer x spare dst held′ slots counts sizes seats lengths owners cells cuts runs keys begins ord ends marks out many shells) (sym e) (subst (λ x. Lent room answer rest spare dst x slots counts sizes seats lengths owners cells cuts runs keys begins ord ends marks out many shells) (sym h) L)

@@ -3,14 +3,19 @@ use Prim.Native.Nat.{ℕ}
 use mathlib.Core.Bool.{Bool}
 use mathlib.Core.List.{List}
 use Rattle.refusal.specs.Outcome.{Outcome, then}
+use Rattle.space.specs.Shapes.{Cell}
 use Rattle.job.specs.declared.Layout.{Layout}
 use Rattle.jobs.specs.Jobs.{openJob, Both, bothOf}
-use Rattle.cells_call.specs.Calls.{operationAs}
-use Rattle.fuse_answer.specs.Call.{fuseCall}
+use Rattle.pieces.specs.Pieces.{piecesOf}
+use Rattle.fuse_served.specs.Call.{fuseCall}
+
+-- the pieces of the job's operation
+abbrev pub piecesBoth : ℕ → Layout → Both → Outcome (List Cell)
+piecesBoth room y p = piecesOf (y .operation) (y .precision) room (p .first) (p .second)
 
 -- "the first solid, the second, then 000's own order of work"
 abbrev pub fuseBoth : ℕ → Layout → Both → Outcome (List ℕ)
-fuseBoth room y p = fuseCall (operationAs (y .operation)) (y .precision) room (p .first) (p .second)
+fuseBoth room y p = fuseCall (y .operation) (y .precision) room (p .first) (p .second)
 
 unfoldable pub fuseLaid : List ℕ → ℕ → Layout → Outcome (List ℕ)
 fuseLaid l room y = then (bothOf l y) (fuseBoth room y)

@@ -1,2 +1,5 @@
+pub mod Call
 pub mod Entry
+pub mod Wide
+pub mod Short
 pub mod Laws

@@ -1,14 +1,86 @@
-// The call that fuses but for the clearing of its work memory: the test of what is lent, the job read, its solids in rooms, then the bytes
-// of the bodies. All slices but the answer are work memory; that of the second solid is the call's own.
+// The call that fuses but for the clearing of its work memory: the test of what is lent, the job read, its solids in rooms, their pieces,
+// then the bytes of the bodies. All slices but the answer are work memory; those that the pieces need no more serve the fusing.
 use ended::Ended;
 use job::Laid;
+use job::Layout;
 use refusal::Verdict;
+use stack::Stack;
 ghost use mathlib.Core.Path.{_≡_};
 ghost use Prim.Native.Nat.{_*_, _≤_};
 ghost use lib.ListN.{length};
+ghost use Rattle.refusal.specs.Outcome.{then};
+ghost use Rattle.stack.specs.Stacks.{Listed, Places};
+ghost use Rattle.cells.specs.Rests.{Place};
+ghost use Rattle.intake.specs.Layouts.{Stood};
+ghost use Rattle.jobs.specs.Jobs.{bothOf};
 ghost use Rattle.ended.specs.Ends.{endedOf, written};
 ghost use Rattle.fuse_lent.specs.Lent.{lends};
-ghost use Rattle.fuse_served.specs.Entry.{fuseEntry};
+ghost use Rattle.fuse_served.specs.Entry.{piecesBoth, fuseEntry};
+
+// The pieces of the job's operation, listed in `dst`, `counts` and `sizes`; the memory of the second solid and of a cut is the call's own.
+fn cut_job(
+    job: &[u8],
+    y: Layout,
+    limit: usize,
+    rest: &mut [f64],
+    spare: &mut [f64],
+    dst: &mut [f64],
+    held: &mut [u64],
+    slots: &mut [u64],
+    counts: &mut [u64],
+    sizes: &mut [u64],
+    seats: &mut [u64],
+) -> Stack
+    requires { ⌜ Stood (now job) (y .first) × Stood (now job) (y .second) ⌝ }
+    requires { ⌜ (1920 ≤ length (now rest)) × Place limit (now rest) (now held) × Places limit (now dst) (now counts) (now sizes) × Places limit (now spare) (now slots) (now seats) ⌝ }
+    ensures { λ r. ⌜ Listed limit (then (bothOf (now (job .entry)) y) (piecesBoth limit y)) r (now (dst .exit)) (now (counts .exit)) (now (sizes .exit)) ⌝ }
+{
+    let mut src = [0.0; 1920];
+    let mut corners = [0u64; 64];
+    let mut planes = [0.0; 3072];
+    let mut face = [0.0; 384];
+    let mut cap = [0.0; 3072];
+    let mut flat = [0.0; 2048];
+    let mut order = [0u64; 1024];
+    let mut chain = [0u64; 2048];
+    let o = y.operation;
+    let t = y.precision;
+    let pair = jobs::take_both(job, y, rest, held, &mut src, &mut corners);
+    let v = pair.verdict;
+    let Verdict::Fine = v else {
+        return Stack {
+            verdict: v,
+            cells: 0,
+            faces: 0,
+            corners: 0,
+        };
+    };
+    pieces::pieces(
+        o,
+        t,
+        limit,
+        pair.first,
+        &src,
+        0,
+        &corners,
+        0,
+        pair.second,
+        &mut planes,
+        rest,
+        held,
+        dst,
+        counts,
+        sizes,
+        spare,
+        slots,
+        seats,
+        &mut face,
+        &mut cap,
+        &mut flat,
+        &mut order,
+        &mut chain,
+    )
+}
 
 // At most 2^38 bytes: 64 for each corner of a room of at most 2^32.
 pub fn served(
@@ -40,8 +112,6 @@ pub fn served(
     ensures { λ r. ⌜ (r ≡ endedOf (fuseEntry (lends limit (length (now (answer .entry))) (length (now (rest .entry))) (length (now (spare .entry))) (length (now (dst .entry))) (length (now (held .entry))) (length (now (slots .entry))) (length (now (counts .entry))) (length (now (sizes .entry))) (length (now (seats .entry))) (length (now (lengths .entry))) (length (now (owners .entry))) (length (now (cells .entry))) (length (now (cuts .entry))) (length (now (runs .entry))) (length (now (keys .entry))) (length (now (begins .entry))) (length (now (ord .entry))) (length (now (ends .entry))) (length (now (marks .entry))) (length (now (out .entry))) (length (now (many .entry))) (length (now (shells .entry)))) limit (now (job .entry)))) × (r .bytes ≤ 274877906944) × (r .bytes ≤ 64 * limit) ⌝ }
     ensures { λ _. ⌜ now (answer .exit) ≡ written (fuseEntry (lends limit (length (now (answer .entry))) (length (now (rest .entry))) (length (now (spare .entry))) (length (now (dst .entry))) (length (now (held .entry))) (length (now (slots .entry))) (length (now (counts .entry))) (length (now (sizes .entry))) (length (now (seats .entry))) (length (now (lengths .entry))) (length (now (owners .entry))) (length (now (cells .entry))) (length (now (cuts .entry))) (length (now (runs .entry))) (length (now (keys .entry))) (length (now (begins .entry))) (length (now (ord .entry))) (length (now (ends .entry))) (length (now (marks .entry))) (length (now (out .entry))) (length (now (many .entry))) (length (now (shells .entry)))) limit (now (job .entry))) (now (answer .entry)) ⌝ }
 {
-    let mut src = [0.0; 1920];
-    let mut corners = [0u64; 64];
     let enough = fuse_lent::is_lent(
         limit,
         answer.len(),
@@ -71,24 +141,10 @@ pub fn served(
     match read {
         Laid::Made(y) => {
             let t = y.precision;
-            let pair = jobs::take_both(job, y, rest, held, &mut src, &mut corners);
-            let v = pair.verdict;
-            let Verdict::Fine = v else {
-                return Ended {
-                    verdict: v,
-                    bytes: 0,
-                };
-            };
-            let o = y.operation;
-            let op = cells_call::operation_as(o);
-            fuse_answer::fuse_answer(
-                op,
-                t,
+            let list = cut_job(
+                job,
+                y,
                 limit,
-                pair.first,
-                &src,
-                &corners,
-                pair.second,
                 rest,
                 spare,
                 dst,
@@ -97,7 +153,19 @@ pub fn served(
                 counts,
                 sizes,
                 seats,
+            );
+            fused_bytes::fused_bytes(
+                t,
+                limit,
+                list,
+                dst,
+                counts,
+                sizes,
+                rest,
+                held,
+                slots,
                 lengths,
+                seats,
                 owners,
                 cells,
                 cuts,
@@ -105,7 +173,7 @@ pub fn served(
                 keys,
                 begins,
                 ord,
-                ends,
+                &mut ends[..limit],
                 marks,
                 out,
                 many,

@@ -32,7 +32,7 @@ pub extern "C" fn solid_fuse(
 ) -> u64
     ensures { λ r. ⌜ FuseDone (now (job .entry)) corners (now (rest .entry)) (now (spare .entry)) (now (dst .entry)) (now (held .entry)) (now (slots .entry)) (now (counts .entry)) (now (sizes .entry)) (now (seats .entry)) (now (lengths .entry)) (now (owners .entry)) (now (cells .entry)) (now (cuts .entry)) (now (runs .entry)) (now (keys .entry)) (now (begins .entry)) (now (ord .entry)) (now (ends .entry)) (now (marks .entry)) (now (out .entry)) (now (many .entry)) (now (shells .entry)) (now (answer .entry)) r (now (rest .exit)) (now (spare .exit)) (now (dst .exit)) (now (held .exit)) (now (slots .exit)) (now (counts .exit)) (now (sizes .exit)) (now (seats .exit)) (now (lengths .exit)) (now (owners .exit)) (now (cells .exit)) (now (cuts .exit)) (now (runs .exit)) (now (keys .exit)) (now (begins .exit)) (now (ord .exit)) (now (ends .exit)) (now (marks .exit)) (now (out .exit)) (now (many .exit)) (now (shells .exit)) (now (answer .exit)) ⌝ }
 {
-    solid_fuse::fuse(
+    let fused = solid_fuse::fuse(
         job,
         corners,
         rest,
@@ -57,7 +57,9 @@ pub extern "C" fn solid_fuse(
         many,
         shells,
         answer,
-    )
+    );
+    let v = fused.verdict;
+    ended::told_by(v, fused.bytes)
 }
 
 // The cells of a job's operation, in the same way.

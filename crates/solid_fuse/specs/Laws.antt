@@ -1,18 +1,10 @@
--- What is handed back, in the words of the code.
-use mathlib.Core.Path.{_≡_, ap, _∙_}
+-- The work slices after the call, in the words of the code.
+use mathlib.Core.Path.{_≡_}
 use mathlib.Core.List.{List}
-use Prim.Native.Nat.{ℕ, _≤_}
+use Prim.Native.Nat.{ℕ}
 use lib.Ieee.{Float}
-use Rattle.refusal.specs.Outcome.{Outcome}
 use Rattle.clear.specs.Clear.{zeros}
-use Rattle.ended.specs.declared.Ended.{Ended}
-use Rattle.ended.specs.Ends.{endedOf, toldBy, toldOf}
-use Rattle.ended.specs.Laws.{told-of}
 use Rattle.solid_fuse.specs.Cleared.{Half, Cleared}
-
--- the number
-pub entry-told : (o : Outcome (List ℕ)) (e : Ended) (n r : ℕ) → (e ≡ endedOf o) × (e .bytes ≤ n) → r ≡ toldBy (e .verdict) (e .bytes) → r ≡ toldOf o
-entry-told o e n r h g = g ∙ ap (λ x. toldBy (x .verdict) (x .bytes)) (h .0) ∙ told-of o
 
 -- the second half of the work slices is zeroed behind the first
 pub all-zero : {rest rest′ spare spare′ dst dst′ : List Float} {held held′ slots slots′ counts counts′ sizes sizes′ seats seats′ lengths lengths′ owners owners′ cells cells′ cuts cuts′ runs runs′ keys keys′ begins begins′ ord ord′ ends ends′ marks marks′ out out′ many many′ shells shells′ : List ℕ} →

@@ -8,12 +8,11 @@ use Rattle.space.specs.Shapes.{Face, Cell}
 use Rattle.polygon.specs.Members.{same-ok, then-ok}
 use Rattle.job.specs.declared.Layout.{Layout}
 use Rattle.jobs.specs.Jobs.{openJob, Both, bothOf}
-use Rattle.cells_call.specs.Calls.{operationAs}
 use Rattle.pieces.specs.Pieces.{piecesOf}
-use Rattle.fused.specs.Bodies.{fuseCells, fusedOf}
+use Rattle.fused.specs.Bodies.{fuseCells}
 use Rattle.fused.specs.Theorem.{Fusion, fusion}
 use Rattle.fused_bytes.specs.Bytes.{fusedAnswer, answerOf}
-use Rattle.fuse_answer.specs.Call.{fuseCall}
+use Rattle.fuse_served.specs.Call.{fusedOf, fuseCall}
 use Rattle.fuse_served.specs.Entry.{fuseBoth, fuseLaid, fuseEntry}
 
 -- the job, its checked solids, the pieces and the bodies behind an answer
@@ -23,7 +22,7 @@ pub record Answer (enough : Bool) (room : ℕ) (l bytes : List ℕ) : Type 0 whe
   pub both : Both
   pub checked : bothOf l layout ≡ ok both
   pub pieces : List Cell
-  pub split : piecesOf (operationAs (layout .operation)) (layout .precision) room (both .first) (both .second) ≡ ok pieces
+  pub split : piecesOf (layout .operation) (layout .precision) room (both .first) (both .second) ≡ ok pieces
   pub bodies : List (List (List Face))
   pub fused : Fusion (layout .precision) room pieces bodies
   pub is : bytes ≡ fusedAnswer bodies
@@ -35,8 +34,8 @@ entry-fusion enough room l bytes e =
     let y = a .0 in
     let b = then-ok (bothOf l y) (fuseBoth room y) bytes (a .2) in
     let p = b .0 in
-    let c = then-ok (fusedOf (operationAs (y .operation)) (y .precision) room (p .first) (p .second)) (λ bs. ok (fusedAnswer bs)) bytes (b .2) in
-    let d = then-ok (piecesOf (operationAs (y .operation)) (y .precision) room (p .first) (p .second)) (fuseCells (y .precision) room) (c .0) (c .1) in
+    let c = then-ok (fusedOf (y .operation) (y .precision) room (p .first) (p .second)) (λ bs. ok (fusedAnswer bs)) bytes (b .2) in
+    let d = then-ok (piecesOf (y .operation) (y .precision) room (p .first) (p .second)) (fuseCells (y .precision) room) (c .0) (c .1) in
     record {
       layout = y;
       opened = a .1;

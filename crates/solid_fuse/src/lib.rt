@@ -4,7 +4,7 @@ use ended::Ended;
 ghost use mathlib.Core.Path.{_≡_};
 ghost use Prim.Native.Nat.{_≤_};
 ghost use lib.ListN.{length};
-ghost use Rattle.ended.specs.Ends.{endedOf, written, toldOf};
+ghost use Rattle.ended.specs.Ends.{endedOf, written};
 ghost use Rattle.fuse_lent.specs.Lent.{lends};
 ghost use Rattle.fuse_served.specs.Entry.{fuseEntry};
 ghost use Rattle.solid_fuse.specs.Cleared.{Half, Cleared};
@@ -72,8 +72,8 @@ fn half_cleared(
     ended
 }
 
-// The fused bodies of the Boolean operation of the job that the bytes hold: the number of the refusal, or 256 times the bytes of the answer,
-// which stands at the front of `answer`. `corners` is the room; all slices but the answer are work memory, and zero after the call.
+// The fused bodies of the Boolean operation of the job that the bytes hold: the refusal, or how many bytes the answer has, which stands at
+// the front of `answer`. `corners` is the room; all slices but the answer are work memory, and zero after the call.
 pub fn fuse(
     job: &[u8],
     corners: u64,
@@ -99,8 +99,8 @@ pub fn fuse(
     many: &mut [u64],
     shells: &mut [u64],
     answer: &mut [u8],
-) -> u64
-    ensures { λ r. ⌜ r ≡ toldOf (fuseEntry (lends corners (length (now (answer .entry))) (length (now (rest .entry))) (length (now (spare .entry))) (length (now (dst .entry))) (length (now (held .entry))) (length (now (slots .entry))) (length (now (counts .entry))) (length (now (sizes .entry))) (length (now (seats .entry))) (length (now (lengths .entry))) (length (now (owners .entry))) (length (now (cells .entry))) (length (now (cuts .entry))) (length (now (runs .entry))) (length (now (keys .entry))) (length (now (begins .entry))) (length (now (ord .entry))) (length (now (ends .entry))) (length (now (marks .entry))) (length (now (out .entry))) (length (now (many .entry))) (length (now (shells .entry)))) corners (now (job .entry))) ⌝ }
+) -> Ended
+    ensures { λ r. ⌜ (r ≡ endedOf (fuseEntry (lends corners (length (now (answer .entry))) (length (now (rest .entry))) (length (now (spare .entry))) (length (now (dst .entry))) (length (now (held .entry))) (length (now (slots .entry))) (length (now (counts .entry))) (length (now (sizes .entry))) (length (now (seats .entry))) (length (now (lengths .entry))) (length (now (owners .entry))) (length (now (cells .entry))) (length (now (cuts .entry))) (length (now (runs .entry))) (length (now (keys .entry))) (length (now (begins .entry))) (length (now (ord .entry))) (length (now (ends .entry))) (length (now (marks .entry))) (length (now (out .entry))) (length (now (many .entry))) (length (now (shells .entry)))) corners (now (job .entry)))) × (r .bytes ≤ 274877906944) ⌝ }
     ensures { λ _. ⌜ now (answer .exit) ≡ written (fuseEntry (lends corners (length (now (answer .entry))) (length (now (rest .entry))) (length (now (spare .entry))) (length (now (dst .entry))) (length (now (held .entry))) (length (now (slots .entry))) (length (now (counts .entry))) (length (now (sizes .entry))) (length (now (seats .entry))) (length (now (lengths .entry))) (length (now (owners .entry))) (length (now (cells .entry))) (length (now (cuts .entry))) (length (now (runs .entry))) (length (now (keys .entry))) (length (now (begins .entry))) (length (now (ord .entry))) (length (now (ends .entry))) (length (now (marks .entry))) (length (now (out .entry))) (length (now (many .entry))) (length (now (shells .entry)))) corners (now (job .entry))) (now (answer .entry)) ⌝ }
     ensures { λ _. ⌜ Cleared (now (rest .entry)) (now (rest .exit)) (now (spare .entry)) (now (spare .exit)) (now (dst .entry)) (now (dst .exit)) (now (held .entry)) (now (held .exit)) (now (slots .entry)) (now (slots .exit)) (now (counts .entry)) (now (counts .exit)) (now (sizes .entry)) (now (sizes .exit)) (now (seats .entry)) (now (seats .exit)) (now (lengths .entry)) (now (lengths .exit)) (now (owners .entry)) (now (owners .exit)) (now (cells .entry)) (now (cells .exit)) (now (cuts .entry)) (now (cuts .exit)) (now (runs .entry)) (now (runs .exit)) (now (keys .entry)) (now (keys .exit)) (now (begins .entry)) (now (begins .exit)) (now (ord .entry)) (now (ord .exit)) (now (ends .entry)) (now (ends .exit)) (now (marks .entry)) (now (marks .exit)) (now (out .entry)) (now (out .exit)) (now (many .entry)) (now (many .exit)) (now (shells .entry)) (now (shells .exit)) ⌝ }
 {
@@ -133,6 +133,5 @@ pub fn fuse(
     clear::zero_counts4(cuts, runs, keys, begins);
     clear::zero_counts3(ord, ends, marks);
     clear::zero_counts3(out, many, shells);
-    let v = ended.verdict;
-    ended::told_by(v, ended.bytes)
+    ended
 }

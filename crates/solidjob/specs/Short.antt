@@ -15,8 +15,7 @@ use Rattle.job.specs.Read.{solidAt}
 use Rattle.solid_check.specs.Check.{check}
 use Rattle.intake.specs.Laws.{check-few}
 use Rattle.jobs.specs.Jobs.{openJob, Both, withSecond, bothOf}
-use Rattle.cells_call.specs.Calls.{operationAs}
-use Rattle.fuse_answer.specs.Short.{call-short}
+use Rattle.fuse_served.specs.Short.{call-short}
 use Rattle.fuse_served.specs.Entry.{fuseBoth, fuseLaid, fuseEntry}
 
 -- every face of a checked solid has three corners or more
@@ -38,4 +37,4 @@ entry-short enough room l bytes e =
     let b = then-ok (bothOf l y) (fuseBoth room y) bytes (a .2) in
     let p = b .0 in
     let w = both-wide l y p (b .1) in
-    call-short (operationAs (y .operation)) (y .precision) room (p .first) (p .second) bytes (b .2) (w .0) (w .1)
+    call-short (y .operation) (y .precision) room (p .first) (p .second) bytes (b .2) (w .0) (w .1)

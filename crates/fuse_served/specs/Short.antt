@@ -11,11 +11,11 @@ use Rattle.polygon.specs.Members.{same-ok, then-ok}
 use Rattle.clip.specs.Clips.{Wide}
 use Rattle.job.specs.declared.Operation.{Operation}
 use Rattle.pieces.specs.Pieces.{piecesOf}
-use Rattle.fused.specs.Bodies.{fuseCells, fusedOf}
+use Rattle.fused.specs.Bodies.{fuseCells}
 use Rattle.fused_bytes.specs.Bytes.{fusedAnswer, answerOf}
 use Rattle.fused_bytes.specs.Size.{cells-short}
-use Rattle.fuse_answer.specs.Call.{fuseCall}
-use Rattle.fuse_answer.specs.Wide.{pieces-wide}
+use Rattle.fuse_served.specs.Call.{fusedOf, fuseCall}
+use Rattle.fuse_served.specs.Wide.{pieces-wide}
 
 pub call-short : (op : Operation) (t : Precision) (room : ℕ) (a b : Cell) (bytes : List ℕ) → fuseCall op t room a b ≡ ok bytes → Wide a → Wide b → length bytes ≤ 64 * room
 unfolding fuseCall answerOf fusedOf

@@ -1,4 +1,0 @@
-pub mod Call
-pub mod Wide
-pub mod Short
-pub mod Laws
