@@ -5,7 +5,8 @@ use Prim.Native.Nat.{ℕ}
 use lib.ListN.{length}
 use lib.Ieee.{Float}
 use Rattle.ended.specs.Ends as E
-use Rattle.solid_cells.specs.Entry as C
+use Rattle.cells_served.specs.Entry as C
+use Rattle.solid_cells.specs.Cleared as Z
 use Rattle.fuse_lent.specs.Lent.{lends}
 use Rattle.fuse_served.specs.Entry as F
 use Rattle.solid_fuse.specs.Cleared.{Cleared}
@@ -30,7 +31,7 @@ abbrev pub CellsDone : (job : List ℕ) (corners : ℕ) (rest spare dst : List F
 CellsDone job corners rest spare dst held slots counts sizes order chain head seen work nodes cuts answer r rest′ spare′ dst′ held′ slots′ counts′ sizes′ order′ chain′ head′ seen′ work′ nodes′ cuts′ answer′ =
     let o = C.cellsEntry (C.lends corners (length answer) (length rest) (length spare) (length dst) (length held) (length slots) (length counts) (length sizes) (length order) (length chain) (length head) (length seen) (length work) (length nodes) (length cuts)) corners job in
     (r ≡ E.toldOf o)
-    × ((answer′ ≡ E.written o answer) × C.Cleared rest rest′ spare spare′ dst dst′ held held′ slots slots′ counts counts′ sizes sizes′ order order′ chain chain′ head head′ seen seen′ work work′ nodes nodes′ cuts cuts′)
+    × ((answer′ ≡ E.written o answer) × Z.Cleared rest rest′ spare spare′ dst dst′ held held′ slots slots′ counts counts′ sizes sizes′ order order′ chain chain′ head head′ seen seen′ work work′ nodes nodes′ cuts cuts′)
 
 -- the offset of a cell by a distance
 abbrev pub OffsetDone : (cell : List ℕ) (distance : Float) (corners : ℕ) (s : List Float) (counts : List ℕ) (dst : List Float) (sizes answer : List ℕ) (r : ℕ) (s′ : List Float) (counts′ : List ℕ) (dst′ : List Float) (sizes′ answer′ : List ℕ) → Type 0

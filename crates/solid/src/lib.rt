@@ -85,7 +85,7 @@ pub extern "C" fn solid_cells(
 ) -> u64
     ensures { λ r. ⌜ CellsDone (now (job .entry)) corners (now (rest .entry)) (now (spare .entry)) (now (dst .entry)) (now (held .entry)) (now (slots .entry)) (now (counts .entry)) (now (sizes .entry)) (now (order .entry)) (now (chain .entry)) (now (head .entry)) (now (seen .entry)) (now (work .entry)) (now (nodes .entry)) (now (cuts .entry)) (now (answer .entry)) r (now (rest .exit)) (now (spare .exit)) (now (dst .exit)) (now (held .exit)) (now (slots .exit)) (now (counts .exit)) (now (sizes .exit)) (now (order .exit)) (now (chain .exit)) (now (head .exit)) (now (seen .exit)) (now (work .exit)) (now (nodes .exit)) (now (cuts .exit)) (now (answer .exit)) ⌝ }
 {
-    solid_cells::cells(
+    let done = solid_cells::cells(
         job,
         corners,
         rest,
@@ -103,7 +103,9 @@ pub extern "C" fn solid_cells(
         nodes,
         cuts,
         answer,
-    )
+    );
+    let v = done.verdict;
+    ended::told_by(v, done.bytes)
 }
 
 // The offset of a cell by a distance, in the same way.

@@ -1,11 +1,11 @@
 // The call of the cell Boolean from outside.
 use ended::Ended;
-use job::Laid;
 ghost use mathlib.Core.Path.{_≡_};
 ghost use Prim.Native.Nat.{_≤_};
 ghost use lib.ListN.{length};
-ghost use Rattle.ended.specs.Ends.{endedOf, written, toldOf};
-ghost use Rattle.solid_cells.specs.Entry.{lends, cellsEntry, Cleared};
+ghost use Rattle.ended.specs.Ends.{endedOf, written};
+ghost use Rattle.cells_served.specs.Entry.{lends, cellsEntry};
+ghost use Rattle.solid_cells.specs.Cleared.{Cleared};
 
 // Enough is lent for a room of so many corners.
 fn is_lent(
@@ -41,59 +41,8 @@ fn is_lent(
     (room <= answer / 64) & ((floats & list) & (cut & faces))
 }
 
-// At most 2^37 bytes: 32 for each corner of a room of at most 2^32.
-fn served(
-    job: &[u8],
-    limit: usize,
-    enough: bool,
-    rest: &mut [f64],
-    spare: &mut [f64],
-    dst: &mut [f64],
-    held: &mut [u64],
-    slots: &mut [u64],
-    counts: &mut [u64],
-    sizes: &mut [u64],
-    order: &mut [u64],
-    chain: &mut [u64],
-    head: &mut [u64],
-    seen: &mut [u64],
-    work: &mut [u64],
-    nodes: &mut [u64],
-    cuts: &mut [u64],
-    answer: &mut [u8],
-) -> Ended
-    requires { ⌜ enough ≡ lends limit (length (now answer)) (length (now rest)) (length (now spare)) (length (now dst)) (length (now held)) (length (now slots)) (length (now counts)) (length (now sizes)) (length (now order)) (length (now chain)) (length (now head)) (length (now seen)) (length (now work)) (length (now nodes)) (length (now cuts)) ⌝ }
-    ensures { λ r. ⌜ (r ≡ endedOf (cellsEntry enough limit (now (job .entry)))) × (r .bytes ≤ 137438953472) ⌝ }
-    ensures { λ _. ⌜ now (answer .exit) ≡ written (cellsEntry enough limit (now (job .entry))) (now (answer .entry)) ⌝ }
-{
-    let read = jobs::open_job(job, enough);
-    match read {
-        Laid::Made(y) => cells_call::answer_laid(
-            job,
-            y,
-            limit,
-            rest,
-            spare,
-            dst,
-            held,
-            slots,
-            counts,
-            sizes,
-            order,
-            chain,
-            head,
-            seen,
-            work,
-            nodes,
-            cuts,
-            answer,
-        ),
-        Laid::Refused(r) => ended::stop(r),
-    }
-}
-
-// The cells of the Boolean operation of the job that the bytes hold: the number of the refusal, or 256 times the bytes of the answer, which
-// stands at the front of `answer`. `corners` is the room; all slices but the answer are work memory, and zero after the call.
+// The cells of the Boolean operation of the job that the bytes hold: a refusal, or an answer of at most 2^37 bytes, which stands at the front
+// of `answer`. `corners` is the room; all slices but the answer are work memory, and zero after the call.
 pub fn cells(
     job: &[u8],
     corners: u64,
@@ -112,8 +61,8 @@ pub fn cells(
     nodes: &mut [u64],
     cuts: &mut [u64],
     answer: &mut [u8],
-) -> u64
-    ensures { λ r. ⌜ r ≡ toldOf (cellsEntry (lends corners (length (now (answer .entry))) (length (now (rest .entry))) (length (now (spare .entry))) (length (now (dst .entry))) (length (now (held .entry))) (length (now (slots .entry))) (length (now (counts .entry))) (length (now (sizes .entry))) (length (now (order .entry))) (length (now (chain .entry))) (length (now (head .entry))) (length (now (seen .entry))) (length (now (work .entry))) (length (now (nodes .entry))) (length (now (cuts .entry)))) corners (now (job .entry))) ⌝ }
+) -> Ended
+    ensures { λ r. ⌜ (r ≡ endedOf (cellsEntry (lends corners (length (now (answer .entry))) (length (now (rest .entry))) (length (now (spare .entry))) (length (now (dst .entry))) (length (now (held .entry))) (length (now (slots .entry))) (length (now (counts .entry))) (length (now (sizes .entry))) (length (now (order .entry))) (length (now (chain .entry))) (length (now (head .entry))) (length (now (seen .entry))) (length (now (work .entry))) (length (now (nodes .entry))) (length (now (cuts .entry)))) corners (now (job .entry)))) × (r .bytes ≤ 137438953472) ⌝ }
     ensures { λ _. ⌜ now (answer .exit) ≡ written (cellsEntry (lends corners (length (now (answer .entry))) (length (now (rest .entry))) (length (now (spare .entry))) (length (now (dst .entry))) (length (now (held .entry))) (length (now (slots .entry))) (length (now (counts .entry))) (length (now (sizes .entry))) (length (now (order .entry))) (length (now (chain .entry))) (length (now (head .entry))) (length (now (seen .entry))) (length (now (work .entry))) (length (now (nodes .entry))) (length (now (cuts .entry)))) corners (now (job .entry))) (now (answer .entry)) ⌝ }
     ensures { λ _. ⌜ Cleared (now (rest .entry)) (now (rest .exit)) (now (spare .entry)) (now (spare .exit)) (now (dst .entry)) (now (dst .exit)) (now (held .entry)) (now (held .exit)) (now (slots .entry)) (now (slots .exit)) (now (counts .entry)) (now (counts .exit)) (now (sizes .entry)) (now (sizes .exit)) (now (order .entry)) (now (order .exit)) (now (chain .entry)) (now (chain .exit)) (now (head .entry)) (now (head .exit)) (now (seen .entry)) (now (seen .exit)) (now (work .entry)) (now (work .exit)) (now (nodes .entry)) (now (nodes .exit)) (now (cuts .entry)) (now (cuts .exit)) ⌝ }
 {
@@ -136,7 +85,7 @@ pub fn cells(
         nodes.len(),
         cuts.len(),
     );
-    let e = served(
+    let ended = cells_served::served(
         job,
         limit,
         enough,
@@ -160,6 +109,5 @@ pub fn cells(
     clear::zero_counts4(held, slots, counts, sizes);
     clear::zero_counts4(order, chain, head, seen);
     clear::zero_counts3(work, nodes, cuts);
-    let v = e.verdict;
-    ended::told_by(v, e.bytes)
+    ended
 }
