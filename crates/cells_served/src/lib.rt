@@ -36,11 +36,6 @@ fn cut_job(
 {
     let mut src = [0.0; 1920];
     let mut corners = [0u64; 64];
-    let mut face = [0.0; 384];
-    let mut cap = [0.0; 3072];
-    let mut flat = [0.0; 2048];
-    let mut order = [0u64; 1024];
-    let mut chain = [0u64; 2048];
     let pair = jobs::take_both(job, y, rest, held, &mut src, &mut corners);
     let v = pair.verdict;
     let Verdict::Fine = v else {
@@ -70,11 +65,6 @@ fn cut_job(
         dst,
         counts,
         sizes,
-        &mut face,
-        &mut cap,
-        &mut flat,
-        &mut order,
-        &mut chain,
     )
 }
 
@@ -107,9 +97,7 @@ pub fn served(
     match read {
         Laid::Made(y) => {
             let t = y.precision;
-            let s = cut_job(
-                job, y, limit, rest, spare, dst, held, slots, counts, sizes,
-            );
+            let s = cut_job(job, y, limit, rest, spare, dst, held, slots, counts, sizes);
             let k = s.cells;
             let v = finish::finish_cells(
                 t,

@@ -38,11 +38,6 @@ fn cut_job(
     let mut src = [0.0; 1920];
     let mut corners = [0u64; 64];
     let mut planes = [0.0; 3072];
-    let mut face = [0.0; 384];
-    let mut cap = [0.0; 3072];
-    let mut flat = [0.0; 2048];
-    let mut order = [0u64; 1024];
-    let mut chain = [0u64; 2048];
     let o = y.operation;
     let t = y.precision;
     let pair = jobs::take_both(job, y, rest, held, &mut src, &mut corners);
@@ -74,11 +69,6 @@ fn cut_job(
         spare,
         slots,
         seats,
-        &mut face,
-        &mut cap,
-        &mut flat,
-        &mut order,
-        &mut chain,
     )
 }
 

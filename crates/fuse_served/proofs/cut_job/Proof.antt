@@ -38,21 +38,6 @@ slice-aggregate-pieces-2 c = search needs
 slice-aggregate-pieces-3 : tie.Need-slice-aggregate-pieces-3
 slice-aggregate-pieces-3 c = search needs
 
-slice-aggregate-pieces-4 : tie.Need-slice-aggregate-pieces-4
-slice-aggregate-pieces-4 c = search needs
-
-slice-aggregate-pieces-5 : tie.Need-slice-aggregate-pieces-5
-slice-aggregate-pieces-5 c = search needs
-
-slice-aggregate-pieces-6 : tie.Need-slice-aggregate-pieces-6
-slice-aggregate-pieces-6 c = search needs
-
-slice-aggregate-pieces-7 : tie.Need-slice-aggregate-pieces-7
-slice-aggregate-pieces-7 c = search needs
-
-slice-aggregate-pieces-8 : tie.Need-slice-aggregate-pieces-8
-slice-aggregate-pieces-8 c = search needs
-
 pieces-requires : tie.Need-pieces-requires
 pieces-requires c κs =
     let h = c .before .before .before .before .before .before .before .before .before .before .before .before .before .before .before .before .before .before .before .before .before .before .before .before .before .before .before .before .before .before .before .before .before .before .before .before .before .before .before .pre in
@@ -63,7 +48,6 @@ pieces-requires c κs =
         record { place = omega (arith, h .1 .1 .place, T .kept .1 .1 .0); slots = omega (arith, h .1 .1 .slots, T .kept .1 .1 .1 .0) },
         h .1 .2,
         h .1 .3,
-        record { face-fits = omega arith; cap-fits = omega arith; hulls = record { flat-fits = omega arith; order-fits = omega arith; chain-fits = omega arith } },
       ),
     )
 
@@ -109,11 +93,6 @@ cut-job-spec =
     slice-aggregate-pieces
     slice-aggregate-pieces-2
     slice-aggregate-pieces-3
-    slice-aggregate-pieces-4
-    slice-aggregate-pieces-5
-    slice-aggregate-pieces-6
-    slice-aggregate-pieces-7
-    slice-aggregate-pieces-8
     pieces-requires
     same-length-3
     same-length-4
