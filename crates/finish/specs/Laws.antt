@@ -122,6 +122,12 @@ module _ {d : List Float} {o : ℕ} {ns : List ℕ} {f n c : ℕ} {s : List Floa
   pub part-bench : {ends head next seen work nodes cuts : List ℕ} → Bench c n ends head next seen work nodes cuts → Bench (length (take y (drop q i))) n ends head next seen work nodes cuts
   part-bench {ends} {head} {next} {seen} {work} {nodes} {cuts} B = subst (λ c. Bench c n ends head next seen work nodes cuts) (sym part-places) B
 
+  pub points-kept : (s′ : List Float) → length s′ ≡ length (take k (drop p s)) → length (take p s ++ (s′ ++ drop k (drop p s))) ≡ length s
+  points-kept s′ e = part-size s p k s′ (omega (arith, ek, S .points)) e
+
+  pub places-kept : (i′ : List ℕ) → length i′ ≡ length (take y (drop q i)) → length (take q i ++ (i′ ++ drop y (drop q i))) ≡ length i
+  places-kept i′ e = part-size i q y i′ (omega (arith, ey, S .places)) e
+
   pub part-behind : (t : Precision) (s′ : List Float) (i′ : List ℕ) (r : Counted) → Stored (built t (cellAt d o (countsAt (take x (drop f ns)) 0 n))) (take k (drop p s)) (take y (drop q i)) s′ i′ r →
       Behind (built t (cellAt d o (countsAt ns f n))) p q s i (take p s ++ (s′ ++ drop k (drop p s))) (take q i ++ (i′ ++ drop y (drop q i))) r
   part-behind t s′ i′ r h =
