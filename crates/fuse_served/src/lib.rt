@@ -17,7 +17,7 @@ ghost use Rattle.ended.specs.Ends.{endedOf, written};
 ghost use Rattle.fuse_lent.specs.Lent.{lends};
 ghost use Rattle.fuse_served.specs.Entry.{piecesBoth, fuseEntry};
 
-// The pieces of the job's operation, listed in `dst`, `counts` and `sizes`; the memory of the second solid and of a cut is the call's own.
+// The pieces of the job's operation, listed in `dst`, `counts` and `sizes`; the second solid and the planes have memory of the call's own.
 fn cut_job(
     job: &[u8],
     y: Layout,
