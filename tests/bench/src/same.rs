@@ -83,15 +83,13 @@ fn greater(x: f64, y: f64) -> f64 {
 }
 
 fn hull_of(p: f64, q: f64, r: f64, s: f64) -> Interval {
-    let ends = outward(
+    if (p.is_nan() | q.is_nan()) | (r.is_nan() | s.is_nan()) {
+        return WHOLE;
+    }
+    outward(
         lesser(lesser(p, q), lesser(r, s)),
         greater(greater(p, q), greater(r, s)),
-    );
-    if (p.is_nan() | q.is_nan()) | (r.is_nan() | s.is_nan()) {
-        WHOLE
-    } else {
-        ends
-    }
+    )
 }
 
 fn put(out: &mut [f64], i: Interval) {
