@@ -1,5 +1,6 @@
 // fuse_obj JOB OUT.obj [CORNERS]: fuses the job of a file in a room of so many corners (8,192 if none are named), prints its
-// bodies and writes the triangles of their facets. Ends with 1 where something was refused, with 2 where a file fails.
+// bodies and writes the triangles of their facets. Ends with 1 where something was refused, with its reason on standard error, with 2
+// where a file fails.
 #include <solid.hpp>
 
 #include <cstdio>
@@ -113,7 +114,7 @@ std::size_t write(const std::vector<solid::Body> &bodies, const Tolerances &t, O
             obj.shell(j + 1);
             for (const auto &facet : bodies[i].shells[j].facets) {
                 if (const unsigned number = triangles(t, facet, cut)) {
-                    std::fprintf(stderr, "a facet of body %zu is not meshed: %u\n", i + 1, number);
+                    std::fprintf(stderr, "a facet of body %zu is not meshed: %u, %s\n", i + 1, number, solid::reason(number));
                     refused++;
                 }
                 obj.facet(facet, cut);
@@ -131,6 +132,7 @@ int run(const std::string &from, const std::string &to, std::size_t corners)
     const std::uint64_t told = solid::fuse(job, room, answer);
     if (const unsigned number = solid::number(told)) {
         std::printf("answer %u\n", number);
+        std::fprintf(stderr, "%s\n", solid::reason(number));
         return 1;
     }
     const auto bodies = solid::bodies_of(std::span(answer).first(solid::bytes(told)));

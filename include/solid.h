@@ -69,6 +69,49 @@ uint64_t solid_hollow(const uint8_t *cell, size_t cell_n, double thickness, uint
 /* The triangles of a facet of at most 128 corners. It takes no room; the answer memory needs 64 bytes a corner. */
 uint64_t solid_mesh(const uint8_t *facet, size_t facet_n, uint8_t *answer, size_t answer_n);
 
+/* What a number says, in a few words for a log; no words for a number that no call gives. */
+static inline const char *solid_reason(uint64_t number)
+{
+    static const char *const words[] = {
+        "an answer",
+        "the bytes are no job, cell or facet, or too many",
+        "a number is not finite or out of range",
+        "too few or too many points, faces or corners",
+        "the solid fails its check",
+        "a frame cannot be made",
+        "two points are neither certainly near nor certainly apart",
+        "a point is neither certainly beside a plane nor certainly on it",
+        "the denominator of a cut may be zero",
+        "a cut point is not certainly on its plane",
+        "a cap has no hull of three corners or more",
+        "more than 512 cells",
+        "the room lent is too small",
+        "a vertex is near two points",
+        "more than 4,096 points",
+        "an edge of the arrangement has collapsed",
+        "a vertex is neither certainly on an edge nor certainly off it",
+        "the order of the vertices on an edge is not certain",
+        "a shared facet is not of two cells, back to front",
+        "a facet has three users or more",
+        "a boundary edge is not of two facets, run once each way",
+        "the sign of a shell's volume is not certain",
+        "a body has a second outward shell",
+        "a body has no outward shell",
+        "offset: not three faces at a vertex",
+        "offset: the planes at a vertex may have no common point",
+        "offset: a moved vertex is not certainly on its planes",
+        "offset: a moved plane is crossed",
+        "the wall is not certainly thicker than linear",
+        "the inner solid is not certainly inside",
+        "mesh: edges cross or overlap",
+        "mesh: no ear is left",
+        "mesh: the last triangle does not turn the right way",
+        "mesh: a turn is not certain",
+        "mesh: the plane's handedness or a reciprocal is not certain",
+    };
+    return number < sizeof words / sizeof words[0] ? words[number] : "";
+}
+
 /* One block of memory for all work slices, 8 bytes a word and aligned to 8: any call takes its slices out of it. */
 
 /* The most corners of such a block: no product below overflows. */

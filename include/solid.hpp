@@ -87,6 +87,9 @@ inline std::uint64_t mesh(std::span<const std::uint8_t> facet, std::span<std::ui
 constexpr unsigned number(std::uint64_t told) { return static_cast<unsigned>(told % 256); }
 constexpr std::size_t bytes(std::uint64_t told) { return static_cast<std::size_t>(told / 256); }
 
+// What a number says, in a few words for a log; no words for a number that no call gives.
+inline const char *reason(unsigned number) { return solid_reason(number); }
+
 using Point = std::array<double, 3>;
 
 struct Plane {

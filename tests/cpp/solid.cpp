@@ -6,6 +6,7 @@
 #include <cstdio>
 #include <limits>
 #include <set>
+#include <string>
 #include <thread>
 #include <utility>
 
@@ -350,6 +351,17 @@ static void the_reader()
     expect("two bodies of one shell", bodies.size() == 2 && bodies[1].shells.size() == 1 && bodies[1].shells[0].outward);
 }
 
+// Each of document 01's numbers has words of its own, and no other number has any.
+static void the_reasons()
+{
+    std::set<std::string> words;
+    for (unsigned number = 0; number <= 34; number++)
+        words.insert(solid::reason(number));
+    expect("a reason for each number", words.size() == 35 && !words.contains(""));
+    expect("no reason for other numbers", solid::reason(35) == std::string() && solid::reason(255) == std::string());
+    expect("the reason of 12", solid::reason(12) == std::string("the room lent is too small"));
+}
+
 int main()
 {
     the_cells();
@@ -362,6 +374,7 @@ int main()
     the_hollow();
     the_mesh();
     the_reader();
+    the_reasons();
     if (!failed)
         std::puts("solid from C++: ok");
     return failed;
