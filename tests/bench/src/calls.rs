@@ -1,5 +1,5 @@
 //! The library's calls beside docs/src over the shim, both from bytes to bytes.
-use crate::timed::{both, row};
+use crate::timed::{is_asked, row};
 use gen::solid::{cube, gem, prism, Reshape};
 use gen::Random;
 use oracle::{
@@ -24,9 +24,13 @@ fn wish(name: &str) -> f64 {
     }
 }
 
-/// One row: the call of these bytes in a room of its own.
+/// One row: the call of these bytes in a room that suffices for most.
 fn timed(name: &str, entry: Entry, call: Call, given: &[u8]) {
-    let corners = room(call, given);
+    timed_in(name, entry, call, given, room(call, given));
+}
+
+/// One row: the call of these bytes in a room of so many corners.
+fn timed_in(name: &str, entry: Entry, call: Call, given: &[u8], corners: usize) {
     let memory = CORNER_BYTES * corners;
     let asked = Asked {
         given,
@@ -43,13 +47,14 @@ fn timed(name: &str, entry: Entry, call: Call, given: &[u8]) {
     desk.give(&asked);
     assert_eq!(desk.call(&asked) % 256, 0, "a timed call is refused");
     let rust = |()| call.answer(given, corners, memory);
-    row(name, both(&[()], |()| desk.call(&asked), rust), wish(name));
+    row(name, &[()], |()| desk.call(&asked), rust, wish(name));
 }
 
 /// Two solids with three faces at each point whose operations are answered.
-fn gems(random: &mut Random, faces: usize) -> [Solid; 2] {
+fn gems(faces: usize) -> [Solid; 2] {
+    let mut random = Random::new(faces as u64);
     loop {
-        let (a, b) = (gem(random, faces), gem(random, faces));
+        let (a, b) = (gem(&mut random, faces), gem(&mut random, faces));
         let pair = [a, b.shifted([0.3, 0.2, 0.1])];
         let job = Job::usual(pair[0].clone(), pair[1].clone(), Operation::Union).bytes();
         let free = Lent::UNBOUNDED;
@@ -59,26 +64,29 @@ fn gems(random: &mut Random, faces: usize) -> [Solid; 2] {
     }
 }
 
-fn pairs() -> [(&'static str, [Solid; 2]); 4] {
-    let mut random = Random::new(3);
-    let prisms = [
-        prism(8, 1.0, 1.0),
-        prism(8, 1.0, 1.0).shifted([0.3, 0.2, 0.1]),
-    ];
-    [
-        ("boxes", [cube(0.0, 2.0), cube(1.0, 3.0)]),
-        ("8-sided prisms", prisms),
-        ("10-face solids", gems(&mut random, 10)),
-        ("20-face solids", gems(&mut random, 20)),
-    ]
-}
+/// A name, and two solids that are made where a run asks for them.
+type Pair = (&'static str, fn() -> [Solid; 2]);
+
+const PAIRS: [Pair; 4] = [
+    ("boxes", || [cube(0.0, 2.0), cube(1.0, 3.0)]),
+    ("8-sided prisms", || {
+        let first = prism(8, 1.0, 1.0);
+        [first.clone(), first.shifted([0.3, 0.2, 0.1])]
+    }),
+    ("10-face solids", || gems(10)),
+    ("20-face solids", || gems(20)),
+];
 
 /// These operations of each pair through a call of jobs.
 fn jobs(called: &str, entry: Entry, call: Call, operations: &[(&str, Operation)]) {
-    for (name, [first, second]) in pairs() {
+    for (name, pair) in PAIRS {
         for (what, operation) in operations {
-            let job = Job::usual(first.clone(), second.clone(), *operation).bytes();
-            timed(&format!("{called}, {what} of {name}"), entry, call, &job);
+            let row = format!("{called}, {what} of {name}");
+            if is_asked(&row) {
+                let [first, second] = pair();
+                let job = Job::usual(first, second, *operation).bytes();
+                timed(&row, entry, call, &job);
+            }
         }
     }
 }
@@ -93,6 +101,9 @@ pub fn cells() {
 
 pub fn fuse() {
     jobs("fuse", FUSE, Call::Fuse, &[INTERSECTION, DIFFERENCE, UNION]);
+    let job = Job::usual(cube(0.0, 2.0), cube(1.0, 3.0), Operation::Intersection).bytes();
+    let name = "fuse, intersection of boxes, 720";
+    timed_in(name, FUSE, Call::Fuse, &job, SOLIDJOB_ROOM);
 }
 
 pub fn moves() {

@@ -1,5 +1,5 @@
 //! `clip` and the mesh beside those of docs/src over the shim, on cells and facets that both have at hand.
-use crate::timed::{both, row};
+use crate::timed::row;
 use gen::{cuts, facets};
 use oracle::leaf::{ReadyCut, ReadyMesh};
 use port::cutting::{Cutter, Given};
@@ -43,8 +43,8 @@ pub fn clips() {
             let (cutter, cell) = &mut lent[i];
             cutter.call(cell, local, 0)
         };
-        let times = both(&places, port, |i| ready[i].run());
-        row(&format!("clip of {name}"), times, 1.0);
+        let name = format!("clip of {name}");
+        row(&name, &places, port, |i| ready[i].run(), 1.0);
     }
 }
 
@@ -56,7 +56,8 @@ pub fn meshes() {
         mesher.give(&f.facet.plane, &f.facet.points);
         assert_eq!(mesher.call(t, n, 0), 0, "a timed facet is refused");
         let ready = ReadyMesh::new(&f.tolerances, &f.facet);
-        let times = both(&[()], |()| mesher.call(t, n, 0), |()| ready.run());
-        row(&format!("mesh of {name}"), times, 1.0);
+        let port = |()| mesher.call(t, n, 0);
+        let name = format!("mesh of {name}");
+        row(&name, &[()], port, |()| ready.run(), 1.0);
     }
 }

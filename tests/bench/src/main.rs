@@ -7,10 +7,7 @@ mod solids;
 mod timed;
 
 fn main() {
-    println!(
-        "{:<36} {:>10} {:>10} {:>7}  {}",
-        "call", "port ns", "Rust ns", "ratio", "wish"
-    );
+    timed::heading();
     numbers::bench();
     cutting::clips();
     cutting::meshes();

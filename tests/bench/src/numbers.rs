@@ -1,6 +1,6 @@
 //! Interval add and mul against the same code in Rust and against std's steps, orient2d against a plain f64 evaluation, the root against the hardware's.
 use crate::same;
-use crate::timed::{both, row};
+use crate::timed::row;
 use gen::{leaves, Random};
 use oracle::Interval;
 use port::leaves::{self as ours, Ends, OfTwo, ADD, MUL};
@@ -58,12 +58,13 @@ fn intervals(kind: &str, pairs: &[[[f64; 2]; 2]]) {
         ("mul / std's steps", MUL, std_mul as OfTwo),
     ];
     for (name, port, rust) in calls {
-        let times = both(
+        row(
+            &format!("{name}{kind}"),
             pairs,
             |[a, b]| out.of_two(black_box(port), a, b),
             |[a, b]| beside.of_two(black_box(rust), a, b),
+            1.2,
         );
-        row(&format!("{name}{kind}"), times, 1.2);
     }
 }
 
@@ -78,13 +79,19 @@ pub fn bench() {
     let turns: Vec<[[f64; 2]; 3]> = (0..INPUTS)
         .map(|_| [(); 3].map(|()| [1.0 + random.unit(), 1.0 + random.unit()]))
         .collect();
-    let times = both(
+    row(
+        "orient2d / plain f64",
         &turns,
         |t| ours::orient2d(t[0], t[1], t[2]),
         |t| plain_orient2d(t[0], t[1], t[2]),
+        20.0,
     );
-    row("orient2d / plain f64", times, 20.0);
     let roots: Vec<f64> = (0..INPUTS).map(|_| random.unit() * 1000.0).collect();
-    let times = both(&roots, ours::square_root, hardware_root);
-    row("square root / hardware", times, 40.0);
+    row(
+        "square root / hardware",
+        &roots,
+        ours::square_root,
+        hardware_root,
+        40.0,
+    );
 }

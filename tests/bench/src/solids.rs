@@ -1,5 +1,5 @@
 //! Reading and checking a cell's bytes beside the Rust over the shim.
-use crate::timed::{both, row};
+use crate::timed::row;
 use gen::solid;
 use oracle::{leaf, read_cell, CellFile, Tolerances};
 use port::solids::Desk;
@@ -15,7 +15,7 @@ pub fn checks() {
         let mut desk = Desk::default();
         assert_eq!(desk.check_cell(&bytes, true), 0, "a timed solid is refused");
         let rust = |()| read_cell(&bytes).and_then(|c| leaf::check(&c.tolerances, &c.solid, true));
-        let times = both(&[()], |()| desk.check_cell(&bytes, true), rust);
-        row(&format!("read and check {name}"), times, 1.0);
+        let port = |()| desk.check_cell(&bytes, true);
+        row(&format!("read and check {name}"), &[()], port, rust, 1.0);
     }
 }
