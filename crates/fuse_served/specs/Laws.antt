@@ -34,7 +34,7 @@ use Rattle.ended.specs.Ends.{stopped, endedOf, written}
 use Rattle.fuse_lent.specs.Lent.{Lent, lends}
 use Rattle.fuse_lent.specs.Laws.{lent-is}
 use Rattle.fuse_served.specs.Call.{fusedOf, fuseCall}
-use Rattle.fuse_served.specs.Entry.{piecesBoth, fuseBoth, fuseLaid, fuseEntry}
+use Rattle.fuse_served.specs.Entry.{piecesBoth, fuseBoth, fuseLaid, fuseEntry, FuseEnded}
 
 -- ---- the solids of the job, and their pieces
 
@@ -154,8 +154,7 @@ module _ (room : ℕ) (answer : List ℕ) (rest spare dst : List Float) (held sl
 
     pub entry-made : (r : Ended) (answer′ : List ℕ) →
         ((r ≡ endedOf (answerOf (then (listAt s d n sizes′) (fuseCells (y .precision) room)))) × (r .bytes ≤ 64 * room)) × (answer′ ≡ written (answerOf (then (listAt s d n sizes′) (fuseCells (y .precision) room))) answer) →
-        ((r ≡ endedOf (fuseEntry (lends room (length answer) (length rest) (length spare) (length dst) (length held) (length slots) (length counts) (length sizes) (length seats) (length lengths) (length owners) (length cells) (length cuts) (length runs) (length keys) (length begins) (length ord) (length ends) (length marks) (length out) (length many) (length shells)) room l)) × (r .bytes ≤ 274877906944) × (r .bytes ≤ 64 * room))
-        × (answer′ ≡ written (fuseEntry (lends room (length answer) (length rest) (length spare) (length dst) (length held) (length slots) (length counts) (length sizes) (length seats) (length lengths) (length owners) (length cells) (length cuts) (length runs) (length keys) (length begins) (length ord) (length ends) (length marks) (length out) (length many) (length shells)) room l) answer)
+        FuseEnded l room rest spare dst held slots counts sizes seats lengths owners cells cuts runs keys begins ord ends marks out many shells answer r answer′
     unfolding fuseEntry
     entry-made r answer′ h =
         let w = laid-is l room y s d n sizes′ H ∙ sym (go (openJob enough l) (fuseLaid l room) y opened) ∙ ap (λ b. fuseEntry b room l) q in

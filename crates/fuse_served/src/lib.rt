@@ -5,17 +5,14 @@ use job::Laid;
 use job::Layout;
 use refusal::Verdict;
 use stack::Stack;
-ghost use mathlib.Core.Path.{_≡_};
-ghost use Prim.Native.Nat.{_*_, _≤_};
+ghost use Prim.Native.Nat.{_≤_};
 ghost use lib.ListN.{length};
 ghost use Rattle.refusal.specs.Outcome.{then};
 ghost use Rattle.stack.specs.Stacks.{Listed, Places};
 ghost use Rattle.cells.specs.Rests.{Place};
 ghost use Rattle.intake.specs.Layouts.{Stood};
 ghost use Rattle.jobs.specs.Jobs.{bothOf};
-ghost use Rattle.ended.specs.Ends.{endedOf, written};
-ghost use Rattle.fuse_lent.specs.Lent.{lends};
-ghost use Rattle.fuse_served.specs.Entry.{piecesBoth, fuseEntry};
+ghost use Rattle.fuse_served.specs.Entry.{piecesBoth, FuseEnded};
 
 // The pieces of the job's operation, listed in `dst`, `counts` and `sizes`; the second solid and the planes have memory of the call's own.
 fn cut_job(
@@ -72,7 +69,7 @@ fn cut_job(
     )
 }
 
-// At most 2^38 bytes: 64 for each corner of a room of at most 2^32.
+// The whole call: how it ended, the answer standing at the front of `answer`.
 pub fn served(
     job: &[u8],
     limit: usize,
@@ -99,8 +96,7 @@ pub fn served(
     shells: &mut [u64],
     answer: &mut [u8],
 ) -> Ended
-    ensures { λ r. ⌜ (r ≡ endedOf (fuseEntry (lends limit (length (now (answer .entry))) (length (now (rest .entry))) (length (now (spare .entry))) (length (now (dst .entry))) (length (now (held .entry))) (length (now (slots .entry))) (length (now (counts .entry))) (length (now (sizes .entry))) (length (now (seats .entry))) (length (now (lengths .entry))) (length (now (owners .entry))) (length (now (cells .entry))) (length (now (cuts .entry))) (length (now (runs .entry))) (length (now (keys .entry))) (length (now (begins .entry))) (length (now (ord .entry))) (length (now (ends .entry))) (length (now (marks .entry))) (length (now (out .entry))) (length (now (many .entry))) (length (now (shells .entry)))) limit (now (job .entry)))) × (r .bytes ≤ 274877906944) × (r .bytes ≤ 64 * limit) ⌝ }
-    ensures { λ _. ⌜ now (answer .exit) ≡ written (fuseEntry (lends limit (length (now (answer .entry))) (length (now (rest .entry))) (length (now (spare .entry))) (length (now (dst .entry))) (length (now (held .entry))) (length (now (slots .entry))) (length (now (counts .entry))) (length (now (sizes .entry))) (length (now (seats .entry))) (length (now (lengths .entry))) (length (now (owners .entry))) (length (now (cells .entry))) (length (now (cuts .entry))) (length (now (runs .entry))) (length (now (keys .entry))) (length (now (begins .entry))) (length (now (ord .entry))) (length (now (ends .entry))) (length (now (marks .entry))) (length (now (out .entry))) (length (now (many .entry))) (length (now (shells .entry)))) limit (now (job .entry))) (now (answer .entry)) ⌝ }
+    ensures { λ r. ⌜ FuseEnded (now (job .entry)) limit (now (rest .entry)) (now (spare .entry)) (now (dst .entry)) (now (held .entry)) (now (slots .entry)) (now (counts .entry)) (now (sizes .entry)) (now (seats .entry)) (now (lengths .entry)) (now (owners .entry)) (now (cells .entry)) (now (cuts .entry)) (now (runs .entry)) (now (keys .entry)) (now (begins .entry)) (now (ord .entry)) (now (ends .entry)) (now (marks .entry)) (now (out .entry)) (now (many .entry)) (now (shells .entry)) (now (answer .entry)) r (now (answer .exit)) ⌝ }
 {
     let enough = fuse_lent::is_lent(
         limit,

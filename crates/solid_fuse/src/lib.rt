@@ -1,12 +1,7 @@
 // The call that fuses, from outside. Its work memory is zeroed in two steps, since a function that lends much more than some 35 slices is
 // beyond the prover.
 use ended::Ended;
-ghost use mathlib.Core.Path.{_≡_};
-ghost use Prim.Native.Nat.{_≤_};
-ghost use lib.ListN.{length};
-ghost use Rattle.ended.specs.Ends.{endedOf, written};
-ghost use Rattle.fuse_lent.specs.Lent.{lends};
-ghost use Rattle.fuse_served.specs.Entry.{fuseEntry};
+ghost use Rattle.fuse_served.specs.Entry.{FuseEnded};
 ghost use Rattle.solid_fuse.specs.Cleared.{Half, Cleared};
 
 // The call, and then the slices of the pieces and the first of fusing are zeroed.
@@ -36,8 +31,7 @@ fn half_cleared(
     shells: &mut [u64],
     answer: &mut [u8],
 ) -> Ended
-    ensures { λ r. ⌜ (r ≡ endedOf (fuseEntry (lends limit (length (now (answer .entry))) (length (now (rest .entry))) (length (now (spare .entry))) (length (now (dst .entry))) (length (now (held .entry))) (length (now (slots .entry))) (length (now (counts .entry))) (length (now (sizes .entry))) (length (now (seats .entry))) (length (now (lengths .entry))) (length (now (owners .entry))) (length (now (cells .entry))) (length (now (cuts .entry))) (length (now (runs .entry))) (length (now (keys .entry))) (length (now (begins .entry))) (length (now (ord .entry))) (length (now (ends .entry))) (length (now (marks .entry))) (length (now (out .entry))) (length (now (many .entry))) (length (now (shells .entry)))) limit (now (job .entry)))) × (r .bytes ≤ 274877906944) ⌝ }
-    ensures { λ _. ⌜ now (answer .exit) ≡ written (fuseEntry (lends limit (length (now (answer .entry))) (length (now (rest .entry))) (length (now (spare .entry))) (length (now (dst .entry))) (length (now (held .entry))) (length (now (slots .entry))) (length (now (counts .entry))) (length (now (sizes .entry))) (length (now (seats .entry))) (length (now (lengths .entry))) (length (now (owners .entry))) (length (now (cells .entry))) (length (now (cuts .entry))) (length (now (runs .entry))) (length (now (keys .entry))) (length (now (begins .entry))) (length (now (ord .entry))) (length (now (ends .entry))) (length (now (marks .entry))) (length (now (out .entry))) (length (now (many .entry))) (length (now (shells .entry)))) limit (now (job .entry))) (now (answer .entry)) ⌝ }
+    ensures { λ r. ⌜ FuseEnded (now (job .entry)) limit (now (rest .entry)) (now (spare .entry)) (now (dst .entry)) (now (held .entry)) (now (slots .entry)) (now (counts .entry)) (now (sizes .entry)) (now (seats .entry)) (now (lengths .entry)) (now (owners .entry)) (now (cells .entry)) (now (cuts .entry)) (now (runs .entry)) (now (keys .entry)) (now (begins .entry)) (now (ord .entry)) (now (ends .entry)) (now (marks .entry)) (now (out .entry)) (now (many .entry)) (now (shells .entry)) (now (answer .entry)) r (now (answer .exit)) ⌝ }
     ensures { λ _. ⌜ Half (now (rest .entry)) (now (rest .exit)) (now (spare .entry)) (now (spare .exit)) (now (dst .entry)) (now (dst .exit)) (now (held .entry)) (now (held .exit)) (now (slots .entry)) (now (slots .exit)) (now (counts .entry)) (now (counts .exit)) (now (sizes .entry)) (now (sizes .exit)) (now (seats .entry)) (now (seats .exit)) (now (lengths .entry)) (now (lengths .exit)) (now (owners .entry)) (now (owners .exit)) (now (cells .entry)) (now (cells .exit)) ⌝ }
 {
     let ended = fuse_served::served(
@@ -100,8 +94,7 @@ pub fn fuse(
     shells: &mut [u64],
     answer: &mut [u8],
 ) -> Ended
-    ensures { λ r. ⌜ (r ≡ endedOf (fuseEntry (lends corners (length (now (answer .entry))) (length (now (rest .entry))) (length (now (spare .entry))) (length (now (dst .entry))) (length (now (held .entry))) (length (now (slots .entry))) (length (now (counts .entry))) (length (now (sizes .entry))) (length (now (seats .entry))) (length (now (lengths .entry))) (length (now (owners .entry))) (length (now (cells .entry))) (length (now (cuts .entry))) (length (now (runs .entry))) (length (now (keys .entry))) (length (now (begins .entry))) (length (now (ord .entry))) (length (now (ends .entry))) (length (now (marks .entry))) (length (now (out .entry))) (length (now (many .entry))) (length (now (shells .entry)))) corners (now (job .entry)))) × (r .bytes ≤ 274877906944) ⌝ }
-    ensures { λ _. ⌜ now (answer .exit) ≡ written (fuseEntry (lends corners (length (now (answer .entry))) (length (now (rest .entry))) (length (now (spare .entry))) (length (now (dst .entry))) (length (now (held .entry))) (length (now (slots .entry))) (length (now (counts .entry))) (length (now (sizes .entry))) (length (now (seats .entry))) (length (now (lengths .entry))) (length (now (owners .entry))) (length (now (cells .entry))) (length (now (cuts .entry))) (length (now (runs .entry))) (length (now (keys .entry))) (length (now (begins .entry))) (length (now (ord .entry))) (length (now (ends .entry))) (length (now (marks .entry))) (length (now (out .entry))) (length (now (many .entry))) (length (now (shells .entry)))) corners (now (job .entry))) (now (answer .entry)) ⌝ }
+    ensures { λ r. ⌜ FuseEnded (now (job .entry)) corners (now (rest .entry)) (now (spare .entry)) (now (dst .entry)) (now (held .entry)) (now (slots .entry)) (now (counts .entry)) (now (sizes .entry)) (now (seats .entry)) (now (lengths .entry)) (now (owners .entry)) (now (cells .entry)) (now (cuts .entry)) (now (runs .entry)) (now (keys .entry)) (now (begins .entry)) (now (ord .entry)) (now (ends .entry)) (now (marks .entry)) (now (out .entry)) (now (many .entry)) (now (shells .entry)) (now (answer .entry)) r (now (answer .exit)) ⌝ }
     ensures { λ _. ⌜ Cleared (now (rest .entry)) (now (rest .exit)) (now (spare .entry)) (now (spare .exit)) (now (dst .entry)) (now (dst .exit)) (now (held .entry)) (now (held .exit)) (now (slots .entry)) (now (slots .exit)) (now (counts .entry)) (now (counts .exit)) (now (sizes .entry)) (now (sizes .exit)) (now (seats .entry)) (now (seats .exit)) (now (lengths .entry)) (now (lengths .exit)) (now (owners .entry)) (now (owners .exit)) (now (cells .entry)) (now (cells .exit)) (now (cuts .entry)) (now (cuts .exit)) (now (runs .entry)) (now (runs .exit)) (now (keys .entry)) (now (keys .exit)) (now (begins .entry)) (now (begins .exit)) (now (ord .entry)) (now (ord .exit)) (now (ends .entry)) (now (ends .exit)) (now (marks .entry)) (now (marks .exit)) (now (out .entry)) (now (out .exit)) (now (many .entry)) (now (many .exit)) (now (shells .entry)) (now (shells .exit)) ⌝ }
 {
     let ended = half_cleared(

@@ -10,7 +10,7 @@ fuse-requires : tie.Need-fuse-requires
 fuse-requires c κs = search needs
 
 told-by-requires : tie.Need-told-by-requires
-told-by-requires c κs = omega (arith, c .before .before .before .before .before .before .before .before .before .before .before .before .before .before .before .before .before .before .before .before .before .before .before .before .before .before .before .before .before .before .before .before .before .before .before .before .before .before .before .before .before .before .before .before .fuse .ensures .0 .1)
+told-by-requires c κs = omega (arith, c .before .before .before .before .before .before .before .before .before .before .before .before .before .before .before .before .before .before .before .before .before .before .before .before .before .before .before .before .before .before .before .before .before .before .before .before .before .before .before .before .before .before .before .before .fuse .ensures .0 .0 .1)
 
 same-length : tie.Need-same-length
 same-length c = c .before .before .before .before .before .before .before .before .before .before .before .before .before .before .before .before .before .before .before .before .before .before .before .before .before .before .before .before .before .before .before .before .before .before .before .before .before .before .before .before .before .before .before .before .before .fuse .kept .1 .1 .0
@@ -79,7 +79,7 @@ same-length-22 : tie.Need-same-length-22
 same-length-22 c = c .before .before .before .before .before .before .before .before .before .before .before .before .before .before .before .before .before .before .before .before .before .before .before .before .before .before .before .before .before .before .before .before .before .before .before .before .before .before .before .before .before .before .before .before .before .fuse .kept .1 .1 .1 .1 .1 .1 .1 .1 .1 .1 .1 .1 .1 .1 .1 .1 .1 .1 .1 .1 .1 .1 .1 .0
 
 returns : tie.Need-returns
-returns c = let F = c .before .before .before .before .before .before .before .before .before .before .before .before .before .before .before .before .before .before .before .before .before .before .before .before .before .before .before .before .before .before .before .before .before .before .before .before .before .before .before .before .before .before .before .before .before .fuse in (c .told-by .ensures ∙ ap (λ x. toldBy (x .verdict) (x .bytes)) (F .ensures .0 .0) ∙ told-of _, F .ensures .1)
+returns c = let F = c .before .before .before .before .before .before .before .before .before .before .before .before .before .before .before .before .before .before .before .before .before .before .before .before .before .before .before .before .before .before .before .before .before .before .before .before .before .before .before .before .before .before .before .before .before .fuse in (c .told-by .ensures ∙ ap (λ x. toldBy (x .verdict) (x .bytes)) (F .ensures .0 .0 .0) ∙ told-of _, (F .ensures .0 .1, F .ensures .1))
 
 pub solid-fuse-spec : {M : Type 1} → statement M
 solid-fuse-spec =

@@ -85,23 +85,20 @@ same-length-22 c = c .before .before .before .before .before .before .before .be
 returns : tie.Need-returns
 returns c =
     let S = c .before .before .before .before .before .before .before .before .before .before .before .before .before .before .before .before .before .before .before .before .before .before .before .before .before .before .before .before .before .before .before .before .before .before .before .before .before .before .before .before .before .before .before .before .before .before .before .before .before .before .before .before .before .before .before .before .before .before .before .before .before .before .before .before .before .before .before .before .before .before .before .before .before .before .before .before .before .before .before .before .served in (
-      (S .ensures .0 .0, S .ensures .0 .1),
-      (
-        S .ensures .1,
-        record {
-          z-rest = c .before .before .before .before .before .before .before .before .before .before .before .before .before .before .before .before .before .before .before .before .before .before .before .before .before .before .before .before .before .before .before .before .zero3 .ensures .0 ∙ floats-same _ _ (S .kept .1 .1 .0);
-          z-spare = c .before .before .before .before .before .before .before .before .before .before .before .before .before .before .before .before .before .before .before .before .before .before .before .before .before .before .before .before .before .before .before .before .zero3 .ensures .1 .0 ∙ floats-same _ _ (S .kept .1 .1 .1 .0);
-          z-dst = c .before .before .before .before .before .before .before .before .before .before .before .before .before .before .before .before .before .before .before .before .before .before .before .before .before .before .before .before .before .before .before .before .zero3 .ensures .1 .1 ∙ floats-same _ _ (S .kept .1 .1 .1 .1 .0);
-          z-held = c .before .before .before .before .before .before .before .before .before .before .before .before .before .before .before .before .before .before .before .before .before .zero-counts4 .ensures .0 ∙ zeros-same _ _ (S .kept .1 .1 .1 .1 .1 .0);
-          z-slots = c .before .before .before .before .before .before .before .before .before .before .before .before .before .before .before .before .before .before .before .before .before .zero-counts4 .ensures .1 .0 ∙ zeros-same _ _ (S .kept .1 .1 .1 .1 .1 .1 .0);
-          z-counts = c .before .before .before .before .before .before .before .before .before .before .before .before .before .before .before .before .before .before .before .before .before .zero-counts4 .ensures .1 .1 .0 ∙ zeros-same _ _ (S .kept .1 .1 .1 .1 .1 .1 .1 .0);
-          z-sizes = c .before .before .before .before .before .before .before .before .before .before .before .before .before .before .before .before .before .before .before .before .before .zero-counts4 .ensures .1 .1 .1 ∙ zeros-same _ _ (S .kept .1 .1 .1 .1 .1 .1 .1 .1 .0);
-          z-seats = c .before .before .before .before .before .before .before .before .zero-counts42 .ensures .0 ∙ zeros-same _ _ (S .kept .1 .1 .1 .1 .1 .1 .1 .1 .1 .0);
-          z-lengths = c .before .before .before .before .before .before .before .before .zero-counts42 .ensures .1 .0 ∙ zeros-same _ _ (S .kept .1 .1 .1 .1 .1 .1 .1 .1 .1 .1 .0);
-          z-owners = c .before .before .before .before .before .before .before .before .zero-counts42 .ensures .1 .1 .0 ∙ zeros-same _ _ (S .kept .1 .1 .1 .1 .1 .1 .1 .1 .1 .1 .1 .0);
-          z-cells = c .before .before .before .before .before .before .before .before .zero-counts42 .ensures .1 .1 .1 ∙ zeros-same _ _ (S .kept .1 .1 .1 .1 .1 .1 .1 .1 .1 .1 .1 .1 .0);
-        },
-      ),
+      S .ensures,
+      record {
+        z-rest = c .before .before .before .before .before .before .before .before .before .before .before .before .before .before .before .before .before .before .before .before .before .before .before .before .before .before .before .before .before .before .before .before .zero3 .ensures .0 ∙ floats-same _ _ (S .kept .1 .1 .0);
+        z-spare = c .before .before .before .before .before .before .before .before .before .before .before .before .before .before .before .before .before .before .before .before .before .before .before .before .before .before .before .before .before .before .before .before .zero3 .ensures .1 .0 ∙ floats-same _ _ (S .kept .1 .1 .1 .0);
+        z-dst = c .before .before .before .before .before .before .before .before .before .before .before .before .before .before .before .before .before .before .before .before .before .before .before .before .before .before .before .before .before .before .before .before .zero3 .ensures .1 .1 ∙ floats-same _ _ (S .kept .1 .1 .1 .1 .0);
+        z-held = c .before .before .before .before .before .before .before .before .before .before .before .before .before .before .before .before .before .before .before .before .before .zero-counts4 .ensures .0 ∙ zeros-same _ _ (S .kept .1 .1 .1 .1 .1 .0);
+        z-slots = c .before .before .before .before .before .before .before .before .before .before .before .before .before .before .before .before .before .before .before .before .before .zero-counts4 .ensures .1 .0 ∙ zeros-same _ _ (S .kept .1 .1 .1 .1 .1 .1 .0);
+        z-counts = c .before .before .before .before .before .before .before .before .before .before .before .before .before .before .before .before .before .before .before .before .before .zero-counts4 .ensures .1 .1 .0 ∙ zeros-same _ _ (S .kept .1 .1 .1 .1 .1 .1 .1 .0);
+        z-sizes = c .before .before .before .before .before .before .before .before .before .before .before .before .before .before .before .before .before .before .before .before .before .zero-counts4 .ensures .1 .1 .1 ∙ zeros-same _ _ (S .kept .1 .1 .1 .1 .1 .1 .1 .1 .0);
+        z-seats = c .before .before .before .before .before .before .before .before .zero-counts42 .ensures .0 ∙ zeros-same _ _ (S .kept .1 .1 .1 .1 .1 .1 .1 .1 .1 .0);
+        z-lengths = c .before .before .before .before .before .before .before .before .zero-counts42 .ensures .1 .0 ∙ zeros-same _ _ (S .kept .1 .1 .1 .1 .1 .1 .1 .1 .1 .1 .0);
+        z-owners = c .before .before .before .before .before .before .before .before .zero-counts42 .ensures .1 .1 .0 ∙ zeros-same _ _ (S .kept .1 .1 .1 .1 .1 .1 .1 .1 .1 .1 .1 .0);
+        z-cells = c .before .before .before .before .before .before .before .before .zero-counts42 .ensures .1 .1 .1 ∙ zeros-same _ _ (S .kept .1 .1 .1 .1 .1 .1 .1 .1 .1 .1 .1 .1 .0);
+      },
     )
 
 pub half-cleared-spec : {M : Type 1} → statement M
