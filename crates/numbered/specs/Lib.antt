@@ -1,0 +1,9 @@
+pub mod Numbered
+pub mod Reading
+pub mod Points
+pub mod Solids
+pub mod Cuts
+pub mod Fusing
+pub mod Moves
+pub mod Mesh
+pub mod Calls
