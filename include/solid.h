@@ -10,7 +10,8 @@
  *
  * The work room is counted in corners and lent as slices of numbers (below). What stands in them before a call does not
  * matter; after every call they are zero. The answer memory needs 64 bytes for each corner of the work room: 12 where it
- * has less, or where a work slice is too short. A null pointer goes with length 0.
+ * has less, or where a work slice is too short; fuse and cells give 12 above 2^32 corners too. A null pointer goes with
+ * length 0.
  *
  * What is given, records of one byte of kind and a fixed body, little-endian, 32,768 bytes at most (1 otherwise):
  *   cell   1 tolerances (linear, local: 2 f64); a solid: 2 point (3 f64) for each point, then for each face 3 and, for each
@@ -69,7 +70,7 @@ uint64_t solid_hollow(const uint8_t *cell, size_t cell_n, double thickness, uint
 /* The triangles of a facet of at most 128 corners. It takes no room; the answer memory needs 64 bytes a corner. */
 uint64_t solid_mesh(const uint8_t *facet, size_t facet_n, uint8_t *answer, size_t answer_n);
 
-/* What a number says, in a few words for a log; no words for a number that no call gives. */
+/* What a number of document 01's says, in a few words for a log; no words for any other number. */
 static inline const char *solid_reason(uint64_t number)
 {
     static const char *const words[] = {
@@ -114,8 +115,8 @@ static inline const char *solid_reason(uint64_t number)
 
 /* One block of memory for all work slices, 8 bytes a word and aligned to 8: any call takes its slices out of it. */
 
-/* The most corners of such a block: no product below overflows. */
-#define SOLID_MOST_CORNERS ((uint64_t)1 << 40)
+/* The most corners of such a block: no product below overflows, and in a larger room no job is answered. */
+#define SOLID_MOST_CORNERS ((uint64_t)1 << 32)
 
 #define SOLID_WORDS(name, each, more) +(uint64_t)(each) * corners + (uint64_t)(more)
 

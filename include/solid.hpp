@@ -87,7 +87,7 @@ inline std::uint64_t mesh(std::span<const std::uint8_t> facet, std::span<std::ui
 constexpr unsigned number(std::uint64_t told) { return static_cast<unsigned>(told % 256); }
 constexpr std::size_t bytes(std::uint64_t told) { return static_cast<std::size_t>(told / 256); }
 
-// What a number says, in a few words for a log; no words for a number that no call gives.
+// What a number of document 01's says, in a few words for a log; no words for any other number.
 inline const char *reason(unsigned number) { return solid_reason(number); }
 
 using Point = std::array<double, 3>;

@@ -14,6 +14,52 @@ fn slab() -> Solid {
     cuboid([-0.75 * LOCAL, 2.0, 0.0], [0.75 * LOCAL, 3.0, 1.0])
 }
 
+/// The unit box, its face at the highest y listed first.
+fn high_y_first() -> Solid {
+    let mut solid = unit();
+    let first = solid.faces.remove(4);
+    solid.faces.insert(0, first);
+    solid
+}
+
+/// A slab 3 local thick about z = 0.
+fn thick_slab() -> Solid {
+    cuboid([0.0, 0.0, -1.5 * LOCAL], [1.0, 1.0, 1.5 * LOCAL])
+}
+
+/// A long block beside it whose top is three faces, nearly in one plane. Where the slab is, these planes lie at 0, 3/4 of local above and
+/// 3/4 of local below.
+fn roof() -> Solid {
+    let outline = [
+        [-1000.0, -4.25 * LOCAL],
+        [-150.0, 0.0],
+        [-50.0, 0.0],
+        [-10.0, -0.6 * LOCAL],
+        [-10.0, -5.0],
+        [-1000.0, -5.0],
+    ];
+    let at = |y: f64| outline.map(|[x, z]| [x, y, z]);
+    let side = |i: usize| vec![i, (i + 1) % 6, 6 + (i + 1) % 6, 6 + i];
+    Solid {
+        points: [at(0.0), at(1.0)].concat(),
+        faces: [1, 0, 2, 3, 4, 5]
+            .map(side)
+            .into_iter()
+            .chain([(0..6).rev().collect(), (6..12).collect()])
+            .collect(),
+    }
+}
+
+/// The unit box with its highest corner 3/5 of local higher, which is none of the first three of a face.
+fn raised() -> Solid {
+    let mut solid = unit();
+    solid.points[7][2] += 0.6 * LOCAL;
+    solid.faces[3] = vec![5, 1, 3, 7];
+    solid.faces[4] = vec![3, 2, 6, 7];
+    solid.faces[5] = vec![6, 4, 5, 7];
+    solid
+}
+
 /// The unit box with a point in the middle of its edge at x = y = 1.
 fn straight() -> Solid {
     let mut solid = unit();
@@ -65,6 +111,22 @@ pub fn vanishing() -> [Job; 3] {
     ]
 }
 
+/// The thin solid that vanishes when fused, and as cells does not: the face that it lies beyond comes first.
+pub fn kept_as_cell() -> Job {
+    Job::usual(slab(), high_y_first(), Difference)
+}
+
+/// A slab 3 local thick that vanishes in parts.
+pub fn swallowed() -> Job {
+    Job::usual(thick_slab(), roof(), Difference)
+}
+
+/// A corner that was raised within the tolerance, and then merged with one that is higher still.
+pub fn far_off_plane() -> Job {
+    let above = cuboid([1.0, 1.0, 1.0 + 1.5 * LOCAL], [2.0; 3]);
+    Job::usual(above, raised(), Union)
+}
+
 /// A straight run of corners on the edge where a cut ends.
 pub fn straight_run() -> Job {
     Job::usual(straight(), wedge(), Intersection)
@@ -87,6 +149,14 @@ pub fn nearly_flush() -> Job {
 
 /// All of them.
 pub fn all() -> Vec<Job> {
-    let others = [straight_run(), folded_facet(), off_plane(), nearly_flush()];
+    let others = [
+        kept_as_cell(),
+        swallowed(),
+        far_off_plane(),
+        straight_run(),
+        folded_facet(),
+        off_plane(),
+        nearly_flush(),
+    ];
     vanishing().into_iter().chain(others).collect()
 }

@@ -3,6 +3,7 @@ mod common;
 
 use common::*;
 use gen::limits;
+use gen::solid::{dot, sub};
 use oracle::{leaf, Job, Lent};
 
 fn fused(job: &Job) -> Result<Vec<usize>, u32> {
@@ -21,6 +22,35 @@ fn a_solid_within_local_of_a_plane_vanishes() {
     assert_eq!((fused(&second), cells(&second)), (Ok(vec![6]), Ok(2)));
     assert_eq!((fused(&first), cells(&first)), (Ok(vec![6]), Ok(1)));
     assert_eq!((fused(&rest), cells(&rest)), (Ok(vec![]), Ok(0)));
+}
+
+#[test]
+fn whether_cells_keep_it_depends_on_the_order_of_faces() {
+    let job = limits::kept_as_cell();
+    assert_eq!((fused(&job), cells(&job)), (Ok(vec![]), Ok(1)));
+}
+
+#[test]
+fn a_layer_of_three_local_vanishes_in_parts() {
+    assert_eq!(fused(&limits::swallowed()), Ok(vec![]));
+}
+
+#[test]
+fn a_merged_corner_may_stand_off_by_more_than_local() {
+    let job = limits::far_off_plane().bytes();
+    let bodies = oracle::fuse_bodies(&job, Lent::UNBOUNDED).expect("an answer");
+    let facets = bodies
+        .iter()
+        .flat_map(|b| &b.shells)
+        .flat_map(|s| &s.facets);
+    // the twelve numbers of a plane: origin, x, y, z
+    let part = |f: &oracle::Facet, k: usize| std::array::from_fn(|i| f.plane[3 * k + i]);
+    let off = |f: &oracle::Facet| {
+        let height = |&q: &oracle::Point| dot(part(f, 3), sub(q, part(f, 0))).abs();
+        f.points.iter().map(height).fold(0.0, f64::max)
+    };
+    let most = facets.map(off).fold(0.0, f64::max) / T.local;
+    assert!((most - 1.5).abs() < 0.01, "{most} local");
 }
 
 #[test]
