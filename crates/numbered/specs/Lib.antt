@@ -3,6 +3,7 @@ pub mod Reading
 pub mod Points
 pub mod Solids
 pub mod Cuts
+pub mod Never
 pub mod Fusing
 pub mod Moves
 pub mod Mesh
