@@ -8,16 +8,17 @@ use borrow.Author.Tests.{ltb-false}
 use lib.ListN.{length, take, drop, getD, length-append, length-map}
 use lib.Dec.{eqb, ltb}
 use Rattle.refusal.specs.Outcome.{Outcome, ok, then, unless, walk}
+use Rattle.refusal.specs.Laws.{same-ok, never-ok, then-ok, unless-ok}
 use Rattle.lists.specs.Walks.{Pair, pairsTo, cyclic, numbered}
 use Rattle.lists.specs.Laws.{length-cyclic}
 use Rattle.space.specs.declared.Point3.{Point3}
 use Rattle.space.specs.declared.Precision.{Precision}
 use Rattle.space.specs.Vector.{nowhere}
 use Rattle.space.specs.Shapes.{Face, Cell, Solid, corners}
-use Rattle.polygon.specs.Members.{All, same-ok, never-ok, then-ok, all-append}
+use Rattle.polygon.specs.Members.{All, all-append}
 use Rattle.room.specs.Rooms.{cellCounts}
 use Rattle.room.specs.Laws.{corners-cons, corners-none, length-cellCounts, all-none, all-snoc, all-map, all-both}
-use Rattle.room.specs.Steps.{unless-ok, walk-keeps}
+use Rattle.room.specs.Steps.{walk-keeps}
 use Rattle.indexed.specs.declared.Pick.the-variants.{Only}
 use Rattle.indexed.specs.Indexed.{Search, searchBy, Places, joined, indexPoint, indexFace, indexFaces}
 use Rattle.indexed.specs.Stored.{flat}

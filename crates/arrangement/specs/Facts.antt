@@ -8,10 +8,11 @@ use lib.ListN.{length, take, drop, getD, replicate, length-append}
 use lib.Seq.{sets, sets-eq, length-sets, take-at, drop-nil, getD-take}
 use lib.Ieee.{Float}
 use Rattle.refusal.specs.Outcome.{Outcome, ok}
+use Rattle.refusal.specs.Laws.{same-ok, then-ok}
 use Rattle.space.specs.declared.Precision.{Precision}
 use Rattle.space.specs.Shapes.{Cell}
 use Rattle.polygon.specs.Memory.{floatsOf}
-use Rattle.polygon.specs.Members.{All, same-ok, then-ok, all-append}
+use Rattle.polygon.specs.Members.{All, all-append}
 use Rattle.room.specs.Laws.{length-floatsOf}
 use Rattle.indexed.specs.Stored.{flat}
 use Rattle.stack.specs.Stacks.{cellsSizes, Sound}

@@ -11,13 +11,13 @@ use Rattle.refusal.specs.declared.Refusal.{Refusal}
 use Rattle.refusal.specs.declared.Verdict.{Verdict}
 use Rattle.refusal.specs.declared.Verdict.the-variants as D
 use Rattle.refusal.specs.Outcome.{Outcome, ok, refused, then, heard}
-use Rattle.refusal.specs.Laws.{stop, go}
+use Rattle.refusal.specs.Laws.{stop, go, same-ok, never-ok}
 use Rattle.lists.specs.Laws.{next, done}
 use Rattle.space.specs.declared.Point3.{Point3}
 use Rattle.space.specs.declared.Precision.{Precision}
 use Rattle.space.specs.Shapes.{Face, Cell, Solid, corners, allCorners}
 use Rattle.polygon.specs.Memory.{floatsOf, pointsAt}
-use Rattle.polygon.specs.Members.{All, same-ok, never-ok, all-append}
+use Rattle.polygon.specs.Members.{All, all-append}
 use Rattle.room.specs.Rooms.{faceFloats, cellFloats, cellCounts, cellAt, countsAt, Within, Small}
 use Rattle.room.specs.Laws.{corners-cons, corners-none, length-cellCounts, cell-back, within-stored, points-stored}
 use Rattle.clip.specs.Clips.{Wide}

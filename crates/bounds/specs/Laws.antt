@@ -9,6 +9,7 @@ use lib.Ieee.{Float}
 use Rattle.refusal.specs.declared.Refusal.{Refusal}
 use Rattle.refusal.specs.declared.Verdict.{Verdict}
 use Rattle.refusal.specs.declared.Verdict.the-variants as D
+use Rattle.refusal.specs.Laws.{never-fine}
 use Rattle.space.specs.declared.Point3.{Point3}
 use Rattle.space.specs.declared.Precision.{Precision}
 use Rattle.space.specs.Shapes.{Face, Cell}
@@ -25,9 +26,6 @@ use Rattle.solids.specs.Laws.{each-go, each-stop}
 use Rattle.bounds.specs.Bounds.{notAbove, wellBelow, judged, pointIn, pointsIn, against, Lies}
 
 -- ---- what a fine verdict says
-
-never-fine : {B : Type 0} {r : Refusal} → D.Refused r ≡ D.Fine → B
-never-fine e = absurd (let z : _≡_ {A = ℕ} 0 1 = cc in omega arith)
 
 first-fine : (v w : Verdict) → firstOf v w ≡ D.Fine → (v ≡ D.Fine) × (w ≡ D.Fine)
 unfolding firstOf

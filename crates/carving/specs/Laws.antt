@@ -11,6 +11,7 @@ use Rattle.refusal.specs.declared.Refusal.{Refusal}
 use Rattle.refusal.specs.declared.Verdict.{Verdict}
 use Rattle.refusal.specs.declared.Verdict.the-variants.{Fine, Refused}
 use Rattle.refusal.specs.Outcome.{Outcome, ok, refused, then, heard}
+use Rattle.refusal.specs.Laws.{never-ok}
 use Rattle.space.specs.declared.Plane.{Plane}
 use Rattle.space.specs.declared.Planed.{Planed}
 use Rattle.space.specs.declared.Planed.the-variants as P
@@ -18,7 +19,6 @@ use Rattle.space.specs.declared.Precision.{Precision}
 use Rattle.space.specs.Frames.{planed}
 use Rattle.space.specs.Shapes.{Cell, Part, nothing, part}
 use Rattle.side.specs.Sides.{oppositeOf}
-use Rattle.polygon.specs.Members.{never-ok}
 use Rattle.room.specs.Rooms.{cellFloats, cellCounts, cellAt, countsAt, Within}
 use Rattle.room.specs.Laws.{length-cellFloats, length-cellCounts, cell-stored, within-stored}
 use Rattle.room.specs.Steps.{then-then}

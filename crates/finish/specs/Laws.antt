@@ -11,11 +11,10 @@ use Rattle.refusal.specs.declared.Refusal.{Refusal}
 use Rattle.refusal.specs.declared.Verdict.{Verdict}
 use Rattle.refusal.specs.declared.Verdict.the-variants as D
 use Rattle.refusal.specs.Outcome.{Outcome, ok, refused, then, each, heard, verdictOf}
-use Rattle.refusal.specs.Laws.{each-go, each-stop, each-end}
+use Rattle.refusal.specs.Laws.{each-go, each-stop, each-end, same-ok, never-ok, then-ok}
 use Rattle.space.specs.declared.Precision.{Precision}
 use Rattle.space.specs.Shapes.{Cell, Solid, corners, allCorners}
 use Rattle.polygon.specs.Memory.{floatsOf}
-use Rattle.polygon.specs.Members.{same-ok, never-ok, then-ok}
 use Rattle.room.specs.Rooms.{cellFloats, cellCounts, cellAt, countsAt, Within}
 use Rattle.room.specs.Laws.{sets-append, next-count, counts-done, length-floatsOf, length-cellFloats, length-cellCounts}
 use Rattle.sums.specs.Sum.{sum}

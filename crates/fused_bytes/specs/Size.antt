@@ -6,10 +6,11 @@ use native.Mathlib.Omega.{arith}
 use lib.ListN.{length, getD, length-append, length-map}
 use Rattle.refusal.specs.declared.Verdict.the-variants.{Fine}
 use Rattle.refusal.specs.Outcome.{Outcome, ok}
+use Rattle.refusal.specs.Laws.{same-ok, then-ok}
 use Rattle.space.specs.declared.Precision.{Precision}
 use Rattle.space.specs.Shapes.{Face, Cell}
 use Rattle.words.specs.Little.{digits}
-use Rattle.polygon.specs.Members.{All, all-append, same-ok, then-ok}
+use Rattle.polygon.specs.Members.{All, all-append}
 use Rattle.clip.specs.Clips.{Wide}
 use Rattle.sums.specs.Sum.{sum, hit, pick, full, Each}
 use Rattle.sums.specs.Keys.{users}

@@ -11,11 +11,10 @@ use Rattle.refusal.specs.declared.Refusal.{Refusal}
 use Rattle.refusal.specs.declared.Verdict.{Verdict}
 use Rattle.refusal.specs.declared.Verdict.the-variants as D
 use Rattle.refusal.specs.Outcome.{Outcome, ok, refused, refusalOf, each, heard}
-use Rattle.refusal.specs.Laws.{stop, go}
+use Rattle.refusal.specs.Laws.{stop, go, same-ok, then-ok}
 use Rattle.space.specs.declared.Precision.{Precision}
 use Rattle.space.specs.Shapes.{Face, Cell, corners}
 use Rattle.polygon.specs.Memory.{pointAt, pointsAt}
-use Rattle.polygon.specs.Members.{same-ok, then-ok}
 use Rattle.room.specs.Rooms.{cellFloats, cellCounts, faceAt, cellAt, countsAt, Within}
 use Rattle.room.specs.Laws.{corners-cons, corners-none, length-cellFloats, length-cellCounts, cell-stored, points-before, within-le, length-pointsAt}
 use Rattle.words.specs.Little.{digits}

@@ -11,11 +11,11 @@ use Rattle.refusal.specs.declared.Refusal.{Refusal}
 use Rattle.refusal.specs.declared.Verdict.{Verdict}
 use Rattle.refusal.specs.declared.Verdict.the-variants as D
 use Rattle.refusal.specs.Outcome.{Outcome, ok, refused, then}
-use Rattle.refusal.specs.Laws.{stop, go}
+use Rattle.refusal.specs.Laws.{stop, go, same-ok}
 use Rattle.space.specs.declared.Precision.{Precision}
 use Rattle.space.specs.Shapes.{Cell, corners}
 use Rattle.polygon.specs.Memory.{pointsAt}
-use Rattle.polygon.specs.Members.{All, same-ok}
+use Rattle.polygon.specs.Members.{All}
 use Rattle.room.specs.Rooms.{cellFloats, cellCounts, cellAt, countsAt, Within, Small}
 use Rattle.room.specs.Laws.{cell-stored, within-stored, length-cellFloats, length-cellCounts}
 use Rattle.indexed.specs.declared.Counted.{Counted}

@@ -10,6 +10,7 @@ use lib.ListN.{length, getD, length-append}
 use lib.Ieee.{Float, neg}
 use borrow.Author.Tests.{eqb-false}
 use Rattle.refusal.specs.Outcome.{Outcome, ok, refused, then, unless, walk, each}
+use Rattle.refusal.specs.Laws.{same-ok, never-ok, then-ok}
 use Rattle.space.specs.declared.Point3.{Point3}
 use Rattle.space.specs.declared.Precision.{Precision}
 use Rattle.space.specs.declared.Closeness.{Closeness}
@@ -20,7 +21,7 @@ use Rattle.space.specs.Vector.{origin}
 use Rattle.space.specs.Shapes.{Face, Cell, Solid}
 use Rattle.side.specs.declared.Side.the-variants as S
 use Rattle.side.specs.Sides.{sideOf, oppositeOf}
-use Rattle.polygon.specs.Members.{All, same-ok, never-ok, then-ok, all-append}
+use Rattle.polygon.specs.Members.{All, all-append}
 use Rattle.room.specs.Laws.{all-none, all-snoc, all-map}
 use Rattle.indexed.specs.Indexed.{Search, placeIn, Places, joined, placed, indexPoint, indexPoints, withFace, indexFace, indexed}
 use Rattle.solids.specs.Frames.{pointOf, planeFor}

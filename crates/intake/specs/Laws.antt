@@ -13,15 +13,15 @@ use Rattle.refusal.specs.declared.Refusal.{Refusal}
 use Rattle.refusal.specs.declared.Verdict.{Verdict}
 use Rattle.refusal.specs.declared.Verdict.the-variants as D
 use Rattle.refusal.specs.Outcome.{Outcome, ok, refused, refusalOf, unless, verdictOf}
+use Rattle.refusal.specs.Laws.{never-ok, unless-ok}
 use Rattle.lists.specs.Walks.{all, cyclic}
 use Rattle.lists.specs.Laws.{length-cyclic}
 use Rattle.space.specs.declared.Point3.{Point3}
 use Rattle.space.specs.declared.Precision.{Precision}
 use Rattle.space.specs.Vector.{fairPoint}
 use Rattle.space.specs.Shapes.{Cell, Solid, corners}
-use Rattle.polygon.specs.Members.{All, never-ok}
+use Rattle.polygon.specs.Members.{All}
 use Rattle.room.specs.Rooms.{cellAt, cellCounts, cellFloats, countsAt, Within}
-use Rattle.room.specs.Steps.{unless-ok}
 use Rattle.room.specs.Laws.{length-cellFloats, length-cellCounts, corners-cons, corners-none, cell-stored, within-stored, all-map}
 use Rattle.job.specs.declared.Span.{Span}
 use Rattle.job.specs.Records.{standing, runOf, facesAfter, total, facesOf}

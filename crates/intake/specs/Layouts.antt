@@ -7,8 +7,7 @@ use lib.ListN.{length}
 use lib.Dec.{eqb, leb}
 use borrow.Author.Tests.{leb-true, not-false}
 use Rattle.refusal.specs.Outcome.{ok, then}
-use Rattle.polygon.specs.Members.{same-ok, then-ok}
-use Rattle.room.specs.Steps.{unless-ok}
+use Rattle.refusal.specs.Laws.{same-ok, then-ok, unless-ok}
 use Rattle.job.specs.declared.Span.{Span}
 use Rattle.job.specs.declared.Layout.{Layout}
 use Rattle.job.specs.declared.CellLayout.{CellLayout}

@@ -10,12 +10,12 @@ use lib.Ieee.{Float}
 use borrow.Author.Tests.{leb-true, le-leb, lt-leb}
 use Rattle.refusal.specs.declared.Verdict.the-variants.{Fine}
 use Rattle.refusal.specs.Outcome.{ok, refused, refusalOf, unless}
+use Rattle.refusal.specs.Laws.{same-ok}
 use Rattle.lists.specs.Laws.{next, done}
 use Rattle.lent.specs.Laws.{and-left, and-right}
 use Rattle.stack.specs.declared.Stack.{Stack}
 use Rattle.stack.specs.Stacks.{cellsAt, stackOf, Lies, Listed}
 use Rattle.stack.specs.Laws.{listed-refused}
-use Rattle.polygon.specs.Members.{same-ok}
 use Rattle.list_lent.specs.Lent.{among, allAmong, total, sums, totalBy, facesStand, stands, listIn}
 use Rattle.list_lent.specs.Lying.{lying, list-told}
 

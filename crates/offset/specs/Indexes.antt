@@ -10,11 +10,11 @@ use lib.Dec.{eqb}
 use lib.Ieee.{Float}
 use Rattle.refusal.specs.declared.Refusal.{Refusal}
 use Rattle.refusal.specs.Outcome.{Outcome, ok, refused, walk}
+use Rattle.refusal.specs.Laws.{same-ok, then-ok}
 use Rattle.space.specs.declared.Point3.{Point3}
 use Rattle.space.specs.declared.Precision.{Precision}
 use Rattle.space.specs.Shapes.{Cell, Solid, corners}
 use Rattle.polygon.specs.Memory.{floatsOf, pointsAt}
-use Rattle.polygon.specs.Members.{same-ok, then-ok}
 use Rattle.room.specs.Rooms.{cellCounts, cellAt, countsAt}
 use Rattle.room.specs.Laws.{corners-cons, corners-none, length-pointsAt, points-stored}
 use Rattle.indexed.specs.declared.Counted.{Counted}

@@ -13,16 +13,16 @@ use Rattle.lists.specs.Walks.{all}
 use Rattle.refusal.specs.declared.Verdict.{Verdict}
 use Rattle.refusal.specs.declared.Verdict.the-variants as D
 use Rattle.refusal.specs.Outcome.{ok, then, each, heard}
+use Rattle.refusal.specs.Laws.{same-ok, never-ok, then-ok, unless-ok}
 use Rattle.space.specs.declared.Point3.{Point3}
 use Rattle.space.specs.declared.Precision.{Precision}
 use Rattle.space.specs.Vector.{subV, addV, crossV}
 use Rattle.space.specs.Shapes.{Face, Cell, Solid}
 use Rattle.side.specs.declared.Side.the-variants as S
 use Rattle.side.specs.Sides.{sideOf}
-use Rattle.polygon.specs.Members.{All, same-ok, never-ok, then-ok}
+use Rattle.polygon.specs.Members.{All}
 use Rattle.room.specs.Rooms.{cellCounts}
 use Rattle.room.specs.Laws.{length-cellCounts}
-use Rattle.room.specs.Steps.{unless-ok}
 use Rattle.indexed.specs.Indexed.{indexed}
 use Rattle.solids.specs.Frames.{pointOf}
 use Rattle.bounds.specs.Bounds.{against}

@@ -12,11 +12,10 @@ use Rattle.refusal.specs.declared.Refusal.{Refusal}
 use Rattle.refusal.specs.declared.Verdict.{Verdict}
 use Rattle.refusal.specs.declared.Verdict.the-variants as D
 use Rattle.refusal.specs.Outcome.{Outcome, ok, refused, refusalOf, then, unless}
-use Rattle.refusal.specs.Laws.{stop, go}
+use Rattle.refusal.specs.Laws.{stop, go, same-ok, then-ok}
 use Rattle.space.specs.declared.Precision.{Precision}
 use Rattle.space.specs.Shapes.{Cell, Solid, corners}
 use Rattle.polygon.specs.Memory.{floatsOf, pointsAt}
-use Rattle.polygon.specs.Members.{then-ok, same-ok}
 use Rattle.room.specs.Rooms.{cellCounts, cellAt, countsAt}
 use Rattle.room.specs.Laws.{corners-cons, corners-none, length-pointsAt}
 use Rattle.indexed.specs.declared.Counted.{Counted}

@@ -8,12 +8,11 @@ use lib.ListN.{length, length-append, length-map}
 use lib.Dec.{ltb}
 use lib.Ieee.{Float, neg}
 use Rattle.refusal.specs.Outcome.{Outcome, ok, refused, unless, each}
+use Rattle.refusal.specs.Laws.{same-ok, then-ok, unless-ok}
 use Rattle.space.specs.declared.Precision.{Precision}
 use Rattle.space.specs.Shapes.{Cell, Solid, corners}
-use Rattle.polygon.specs.Members.{same-ok, then-ok}
 use Rattle.room.specs.Rooms.{cellCounts}
 use Rattle.room.specs.Laws.{length-cellCounts}
-use Rattle.room.specs.Steps.{unless-ok}
 use Rattle.indexed.specs.Stored.{flat}
 use Rattle.words.specs.Little.{digits}
 use Rattle.offset.specs.Offsets.{offsetCell}

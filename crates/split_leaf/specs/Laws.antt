@@ -10,7 +10,7 @@ use lib.Seq.{sets}
 use lib.Ieee.{Float}
 use borrow.Author.Tests.{leb-true, ltb-true, le-leb, lt-leb}
 use Rattle.refusal.specs.Outcome.{Outcome, ok, refused, then, numberOf}
-use Rattle.polygon.specs.Members.{never-ok}
+use Rattle.refusal.specs.Laws.{never-ok}
 use Rattle.lent.specs.Lent.{numberBy, whereFine}
 use Rattle.lent.specs.Laws.{and-left, and-right}
 use Rattle.space.specs.Shapes.{Cell}

@@ -12,8 +12,9 @@ use lib.Ieee.{Float}
 use borrow.Author.Tests.{ltb-true, ltb-false, lt-ltb, le-ltb, lt-leb}
 use Rattle.refusal.specs.declared.Refusal.{Refusal}
 use Rattle.refusal.specs.Outcome.{Outcome, ok, refused, then, unless, walk, heard}
+use Rattle.refusal.specs.Laws.{same-ok, never-ok}
 use Rattle.space.specs.Shapes.{Face, Cell, corners, allCorners}
-use Rattle.polygon.specs.Members.{All, same-ok, never-ok}
+use Rattle.polygon.specs.Members.{All}
 use Rattle.room.specs.Rooms.{cellFloats, cellCounts, cellAt, countsAt}
 use Rattle.room.specs.Laws.{sets-append, corners-cons, corners-snoc, corners-none, length-cellFloats, length-cellCounts, cell-back, all-snoc}
 use Rattle.cell.specs.Cells.{isFull, addFace, leftCell}
