@@ -10,12 +10,13 @@ use lib.ListN.{length, length-map}
 use lib.Dec.{T, eqb, eqb-refl}
 use Rattle.refusal.specs.Outcome.{Outcome, ok, unless}
 use Rattle.refusal.specs.Laws.{unless-ok, never-ok}
+use Rattle.refusal.specs.Tests.{or-false}
 use Rattle.lists.specs.Walks.{cyclic}
 use Rattle.sums.specs.Sum.{sum, hit, hit-cases, hit-same, less, less-cases, pick, _∈_, Each, none, here, there, cases-in}
 use Rattle.sums.specs.Keys.{range, key, order, users}
 use Rattle.sums.specs.KeyLaws.{sum-append, sum-map, sum-order, full-hit, full-find, full-only, full-at-least, full-list, getD-map-lt, each-in, users-all, users-has}
 use Rattle.bodies.specs.Fusing.{Facet, verticesOf, facesOf, Run, noRun, runAt, runOf, runs, rises, edgeKeys, Sense, judgeEdge, checkEdges}
-use Rattle.bodies.specs.Passed.{or-false, walk-ok}
+use Rattle.bodies.specs.Passed.{walk-ok}
 use Rattle.bodies.specs.ListLaws.{BodyMade}
 
 -- A run goes from a to d.

@@ -14,6 +14,7 @@ use Rattle.refusal.specs.declared.Verdict.{Verdict}
 use Rattle.refusal.specs.declared.Verdict.the-variants as D
 use Rattle.refusal.specs.Outcome.{Outcome, ok, refused, refusalOf, unless, verdictOf}
 use Rattle.refusal.specs.Laws.{never-ok, unless-ok}
+use Rattle.refusal.specs.Tests.{and-true}
 use Rattle.lists.specs.Walks.{all, cyclic}
 use Rattle.lists.specs.Laws.{length-cyclic}
 use Rattle.space.specs.declared.Point3.{Point3}
@@ -33,7 +34,6 @@ use Rattle.pack.specs.Laws.{points-more, points-none, solid-points}
 use Rattle.solids.specs.Order.{fairAll, within, countedAll, shaped}
 use Rattle.solids.specs.Frames.{Placing}
 use Rattle.topology.specs.Topology.{cornerOf, cornersOf, fits, usedAll, connected, rounded, soundBy, sound}
-use Rattle.topology.specs.Chains.{and-true}
 use Rattle.solid_check.specs.Check.{cellOf, after, check, stored}
 use Rattle.solid_check.specs.Check as K
 use Rattle.solid_check.specs.Laws.{check-counted}

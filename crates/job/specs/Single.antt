@@ -10,13 +10,14 @@ use lib.Dec.{eqb}
 use borrow.Author.Tests.{eq-eqb, eqb-true, not-false}
 use Rattle.refusal.specs.Outcome.{ok, then}
 use Rattle.refusal.specs.Laws.{same-ok, then-ok, unless-ok}
+use Rattle.refusal.specs.Tests.{and-true}
 use Rattle.job.specs.declared.Span.{Span}
 use Rattle.job.specs.declared.CellLayout.{CellLayout}
 use Rattle.job.specs.declared.FacetLayout.{FacetLayout}
 use Rattle.job.specs.Records.{standing, runOf, runAfter, spanOf, bodies}
 use Rattle.job.specs.Bytes.{recordsTo, solidTo, precisionOf, spotOf, planeOf, Single, IsCell, Facet, IsFacet}
 use Rattle.job.specs.Read.{headed, precisionAt, bodiesAt, solidAt, spotAt, planeAt, cellEnd, cellLayout, cellAt, readCell, facetEnd, facetHeaded, facetLayout, facetAt, readFacet}
-use Rattle.job.specs.Runs.{and-left, and-right, stands-parts, stands-body}
+use Rattle.job.specs.Runs.{stands-parts, stands-body}
 use Rattle.job.specs.Parts.{stands-made, records-sound, sized-sound, length-records, records-counted, records-kept, solid-sound, placesOf, solid-complete, solid-rest, solid-kept}
 use Rattle.job.specs.Points.{span-placed}
 use Rattle.job.specs.Sound.{float-within, precision-same, head-stands, head-short, head-made, head-rest, head-body}
@@ -98,9 +99,9 @@ facet-parts : (l : List ℕ) → facetHeaded l ≡ true → length l ≡ 114 + 2
 unfolding facetHeaded facetAt
 facet-parts l h n =
     let c = runOf 2 24 (drop 114 l) in
-    let hd = and-left (headed l) (standing 9 96 (drop 17 l)) h in
+    let hd = and-true (headed l) (standing 9 96 (drop 17 l)) h .0 in
     let s = head-stands l hd in
-    let p = and-right (headed l) (standing 9 96 (drop 17 l)) h in
+    let p = and-true (headed l) (standing 9 96 (drop 17 l)) h .1 in
     let d : drop 1 (drop 17 l) ≡ drop 18 l = drop-drop 1 17 l in
     let r : drop 97 (drop 17 l) ≡ drop 114 l = drop-drop 97 17 l in
     let z : 114 + c * 25 ≡ 114 + 25 * c = omega arith in

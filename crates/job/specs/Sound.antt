@@ -12,6 +12,7 @@ use borrow.Author.Tests.{le-leb, leb-true, eq-eqb, eqb-true, not-false}
 use Rattle.refusal.specs.declared.Refusal.{Refusal}
 use Rattle.refusal.specs.Outcome.{Outcome, ok, refused, refuse, refusalOf, then, unless}
 use Rattle.refusal.specs.Laws.{same-ok, then-ok, unless-ok}
+use Rattle.refusal.specs.Tests.{and-true}
 use Rattle.words.specs.Little.{little, wordAt, floatAt}
 use Rattle.job.specs.declared.Operation.{Operation}
 use Rattle.job.specs.declared.Operation.the-variants.{Intersection, Difference, Union}
@@ -21,7 +22,7 @@ use Rattle.job.specs.declared.Layout.{Layout}
 use Rattle.job.specs.Records.{standing, runOf, facesOf, spanEnd, spanFaces, spanPoints, spanOf}
 use Rattle.job.specs.Read.{headed, precisionAt, operationOf, closing, operationAt, layoutAs, layoutWith, layoutOn, layoutAfter, layoutOf, bodiesAt, solidAt, jobAt, readJob}
 use Rattle.job.specs.Bytes.{JobBodies, solidTo, operationByte, jobBytes, JobSized, precisionOf, Job, jobOf, IsJob}
-use Rattle.job.specs.Runs.{and-left, and-right, stands-parts, stands-body}
+use Rattle.job.specs.Runs.{stands-parts, stands-body}
 use Rattle.job.specs.Parts.{stands-made, solid-sound, placesOf, solid-complete, solid-rest, solid-kept}
 
 -- ---- a part of a part
@@ -45,11 +46,11 @@ precision-same l = rw (float-within l 1 16 0 1 (omega arith) refl, float-within 
 
 pub head-stands : (l : List ℕ) → headed l ≡ true → standing 1 16 l ≡ true
 unfolding headed
-head-stands l e = and-right (leb (length l) 32768) (standing 1 16 l) e
+head-stands l e = and-true (leb (length l) 32768) (standing 1 16 l) e .1
 
 pub head-short : (l : List ℕ) → headed l ≡ true → length l ≤ 32768
 unfolding headed
-head-short l e = leb-true (length l) 32768 (and-left (leb (length l) 32768) (standing 1 16 l) e)
+head-short l e = leb-true (length l) 32768 (and-true (leb (length l) 32768) (standing 1 16 l) e .0)
 
 pub head-made : (l b s : List ℕ) → length b ≡ 16 → l ≡ 1 ∷ b ++ s → length l ≤ 32768 → headed l ≡ true
 unfolding headed
@@ -95,10 +96,10 @@ unfolding operationAt closing
 operation-sound l at o e =
     let u = unless-ok (not (closing l at)) 1 (operationOf (getD l (at + 1) 0)) o e in
     let t = not-false (closing l at) (u .0) in
-    let n : length l ≡ at + 2 = eqb-true (length l) (at + 2) (and-right (standing 6 1 (drop at l)) (eqb (length l) (at + 2)) t) in
+    let n : length l ≡ at + 2 = eqb-true (length l) (at + 2) (and-true (standing 6 1 (drop at l)) (eqb (length l) (at + 2)) t .1) in
     let b : getD l (at + 1) 0 ≡ operationByte o = byte-of (getD l (at + 1) 0) o (u .1) in
     two-left (drop at l) (operationByte o) (omega (arith, length-drop at l)) (getD-drop at l 1 0 ∙ b)
-    (and-left (standing 6 1 (drop at l)) (eqb (length l) (at + 2)) t)
+    (and-true (standing 6 1 (drop at l)) (eqb (length l) (at + 2)) t .0)
 
 operation-complete : (l : List ℕ) (at : ℕ) (o : Operation) → drop at l ≡ 6 ∷ operationByte o ∷ [] → operationAt l at ≡ ok o
 unfolding operationAt closing

@@ -11,8 +11,8 @@ use borrow.Author.Tests.{leb-true, le-leb, lt-leb}
 use Rattle.refusal.specs.declared.Verdict.the-variants.{Fine}
 use Rattle.refusal.specs.Outcome.{ok, refused, refusalOf, unless}
 use Rattle.refusal.specs.Laws.{same-ok}
+use Rattle.refusal.specs.Tests.{and-true}
 use Rattle.lists.specs.Laws.{next, done}
-use Rattle.lent.specs.Laws.{and-left, and-right}
 use Rattle.stack.specs.declared.Stack.{Stack}
 use Rattle.stack.specs.Stacks.{cellsAt, stackOf, Lies, Listed}
 use Rattle.stack.specs.Laws.{listed-refused}
@@ -90,7 +90,7 @@ adding-end low high most s n sum i h I =
 module _ (low high most : ℕ) (l : List ℕ) (f : ℕ) where
   over-by : (b : Bool) → sums low high most l ≡ b → f ≡ cond b (total l) (most + 1) → most < f → sums low high most l ≡ false
   unfolding sums
-  over-by true e g h = absurd (omega (arith, leb-true (total l) most (and-right (allAmong low high l) (leb (total l) most) e), g))
+  over-by true e g h = absurd (omega (arith, leb-true (total l) most (and-true (allAmong low high l) (leb (total l) most) e .1), g))
   over-by false e g h = e
 
   total-over : f ≡ totalBy low high most l → most < f → sums low high most l ≡ false
@@ -165,5 +165,5 @@ module _ (room k : ℕ) (d : List Float) (n z : List ℕ) (r : Stack) where
                 let t = total-fits 3 128 room (take f n) c sum fit in
                 let e : listIn room k d n z ≡ ok (cellsAt d 0 n (take k z)) = ap (λ b. unless (not b) 64 (ok (cellsAt d 0 n (take k z)))) (from-floats true (le-leb (12 * f + 3 * c) (length d) a)) in
                 let L : Lies room (cellsAt d 0 n (take k z)) d n z =
-                lying room d n z k f c many within (and-left (allAmong 1 128 (take k z)) (leb (total (take k z)) room) (s .0)) (s .1) (and-left (allAmong 3 128 (take f n)) (leb (total (take f n)) room) (t .0)) (t .1) fit a in
+                lying room d n z k f c many within (and-true (allAmong 1 128 (take k z)) (leb (total (take k z)) room) (s .0) .0) (s .1) (and-true (allAmong 3 128 (take f n)) (leb (total (take f n)) room) (t .0) .0) (t .1) fit a in
                 record { is = h ∙ sym (list-told d n z k f c many within (s .1) (t .1)) ∙ ap stackOf (sym e); lies = λ cs g. subst (λ x. Lies room x d n z) (same-ok (sym e ∙ g)) L }

@@ -1,6 +1,6 @@
 -- What holds whenever an offset answers: no moved corner is certified Positive against a moved plane, and each residual lies inside the tube.
 use mathlib.Core.Path.{_≡_, refl, sym, ap, _∙_, subst}
-use mathlib.Core.Bool.{Bool, true, false, not, _||_}
+use mathlib.Core.Bool.{true, false, not}
 use mathlib.Core.List.{List, [], _∷_, _++_, append-assoc, append-nil, map}
 use Prim.Native.Nat.{ℕ, suc}
 use native.Mathlib.Omega.{arith}
@@ -14,6 +14,7 @@ use Rattle.refusal.specs.declared.Verdict.{Verdict}
 use Rattle.refusal.specs.declared.Verdict.the-variants as D
 use Rattle.refusal.specs.Outcome.{ok, then, each, heard}
 use Rattle.refusal.specs.Laws.{same-ok, never-ok, then-ok, unless-ok}
+use Rattle.refusal.specs.Tests.{or-false}
 use Rattle.space.specs.declared.Point3.{Point3}
 use Rattle.space.specs.declared.Precision.{Precision}
 use Rattle.space.specs.Vector.{subV, addV, crossV}
@@ -38,10 +39,6 @@ use Rattle.offset.specs.Indexes.{indexed-counts}
 pub record Inside (t : Precision) (p q : Point3) (l : List Push) : Type 0 where
   pub three : length l ≡ 3
   pub each-in : All (λ n. outside t (residual (subV q p) n) ≡ false) l
-
-or-false : (a b : Bool) → (a || b) ≡ false → (a ≡ false) × (b ≡ false)
-or-false true b e = absurd (let z : _≡_ {A = ℕ} 0 1 = cc in omega arith)
-or-false false b e = (refl, e)
 
 to-inside : (t : Precision) (a b c : Push) (p n q : Point3) → movedBy t a b c p n ≡ ok q → Inside t p q (a ∷ b ∷ c ∷ [])
 unfolding movedBy movedTo All

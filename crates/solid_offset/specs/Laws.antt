@@ -14,6 +14,7 @@ use Rattle.refusal.specs.declared.Verdict.{Verdict}
 use Rattle.refusal.specs.declared.Verdict.the-variants as D
 use Rattle.refusal.specs.Outcome.{Outcome, ok, refused, refusalOf, then, unless}
 use Rattle.refusal.specs.Laws.{stop, go}
+use Rattle.refusal.specs.Tests.{and-true}
 use Rattle.space.specs.declared.Precision.{Precision}
 use Rattle.space.specs.Shapes.{Cell, corners}
 use Rattle.room.specs.Rooms.{cellAt, countsAt}
@@ -23,7 +24,6 @@ use Rattle.job.specs.declared.CellLaid.{CellLaid}
 use Rattle.job.specs.declared.CellLaid.the-variants as C
 use Rattle.job.specs.Read.{cellLaid, solidAt}
 use Rattle.solids.specs.Faces.{length-face}
-use Rattle.topology.specs.Chains.{and-true}
 use Rattle.offset.specs.Indexes.{cell-counts}
 use Rattle.hollow.specs.Hollows.{thick}
 use Rattle.solid_check.specs.Check.{check}

@@ -9,6 +9,7 @@ use native.Mathlib.Omega.{arith}
 use lib.ListN.{length}
 use lib.Dec.{T, eqb, ltb}
 use borrow.Author.Tests.{eqb-true, eq-eqb}
+use Rattle.refusal.specs.Tests.{and-true}
 use Rattle.lists.specs.Walks.{all}
 use Rattle.room.specs.Rooms.{In}
 use Rattle.sums.specs.Sum.{sum, hit, hit-cases, hit-same, occ, pick, _∈_, Each, here}
@@ -37,10 +38,6 @@ Chained cs = ReflTransGenᴰ (Shares cs)
 
 not-both : {A : Type 0} {b : Bool} → b ≡ false → b ≡ true → A
 not-both e g = absurd (subst T (sym g ∙ e) tt)
-
-pub and-true : (a b : Bool) → a && b ≡ true → (a ≡ true) × (b ≡ true)
-and-true true b e = (refl, e)
-and-true false b e = not-both refl e
 
 pub all-in : {A : Type 0} (g : A → Bool) (l : List A) (b : Bool) → all g b l ≡ true → (b ≡ true) × ((x : A) → In x l → g x ≡ true)
 unfolding all In
