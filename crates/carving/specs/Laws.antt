@@ -1,6 +1,6 @@
 -- Laws of the remainder and of the pieces, in the words of the code.
 use mathlib.Core.Path.{_≡_, refl, sym, ap, _∙_, subst}
-use mathlib.Core.Bool.{true, false}
+use mathlib.Core.Bool.{true, false, true≢false, false≢true}
 use mathlib.Core.List.{List}
 use Prim.Native.Nat.{ℕ, _+_, _*_, _≤_}
 use native.Mathlib.Omega.{arith}
@@ -34,9 +34,6 @@ use Rattle.carving.specs.declared.Rest.{Rest}
 use Rattle.carving.specs.declared.Carved.{Carved}
 use Rattle.carving.specs.Carvings.{Carving, carving, carveOn, carveCell, carvePart, clipPart}
 use Rattle.carving.specs.Rests.{partAt, restAt, Sits, Kept, Left, Place, keptRest, keptFloats, keptCounts, Keeps, Inside, carvingAt, Ready, ended, Carves}
-
-no : true ≡ false → ⊥
-no e = let z : _≡_ {A = ℕ} 0 1 = cc in omega arith
 
 -- ---- the remainder
 
@@ -100,23 +97,23 @@ module _ (t : Precision) (room : ℕ) (w : Plane) (c : Cell) where
 
     cut-kept : (p : Clipped) → Clips (clip t room w c) p s 0 k 0 s′ k′ → Kept (keptRest p) (keptFloats p d s′) (keptCounts p n k′) × (restAt (keptRest p) (keptFloats p d s′) (keptCounts p n k′) ≡ clip t room w c)
     unfolding told keptRest keptFloats keptCounts restAt partAt heard
-    cut-kept C.Nothing x = (record { sits = λ e. absurd (no (sym e)); fine = λ e. absurd (no (sym e)) }, x .is)
+    cut-kept C.Nothing x = (record { sits = λ e. absurd (false≢true e); fine = λ e. absurd (false≢true e) }, x .is)
     cut-kept (C.Part f m) x = let q = part-kept f m x in (record { sits = λ e. q .0; fine = λ e. refl }, sym (q .1))
-    cut-kept (C.Refused r) x = (record { sits = λ e. absurd (no (sym e)); fine = λ e. absurd (no (sym e)) }, x .is)
+    cut-kept (C.Refused r) x = (record { sits = λ e. absurd (false≢true e); fine = λ e. absurd (false≢true e) }, x .is)
 
 -- ---- one cut of the remainder
 
 pub left-stays : (g : Part → Outcome Part) (s : Rest) (d : List Float) (n : List ℕ) (e : Refusal) → s .verdict ≡ Refused e → Left g s (record { verdict = s .verdict; some = false; faces = 0 }) d n d n
 unfolding restAt heard
 left-stays g s d n e v = record {
-  kept = record { sits = λ x. absurd (no (sym x)); fine = λ x. absurd (no (sym x)) };
+  kept = record { sits = λ x. absurd (false≢true x); fine = λ x. absurd (false≢true x) };
   is = ap (λ y. heard y (partAt false 0 d n)) v ∙ ap (λ o. then o g) (sym (ap (λ y. heard y (partAt (s .some) (s .faces) d n)) v));
 }
 
 pub left-nothing : (t : Precision) (room : ℕ) (w : Plane) (s : Rest) (d : List Float) (n : List ℕ) → s .verdict ≡ Fine → s .some ≡ false → Left (clipPart t room w) s s d n d n
 unfolding restAt heard partAt clipPart
 left-nothing t room w s d n v e = record {
-  kept = record { sits = λ x. absurd (no (sym x ∙ e)); fine = λ x. v };
+  kept = record { sits = λ x. absurd (true≢false (sym x ∙ e)); fine = λ x. v };
   is =
       let q : restAt s d n ≡ ok nothing = ap (λ y. heard y (partAt (s .some) (s .faces) d n)) v ∙ ap (λ y. ok (partAt y (s .faces) d n)) e in
       q ∙ ap (λ o. then o (clipPart t room w)) (sym q);
@@ -234,7 +231,7 @@ module _ (t : Precision) (room : ℕ) (p : Plane) (s : Carved) (d : List Float) 
         Carves room (λ x. carvePart t room (x .out) (x .rest) p) s (record { rest = record { verdict = Refused x; some = false; faces = 0 }; list = s .list }) d n f m z d n f m z
     unfolding carvingAt restAt heard planed
     carves-refused o x eo ex = record {
-      ready = record { kept = record { sits = λ y. absurd (no (sym y)); fine = λ y. absurd (no (sym y)) }; holds = h .holds; fine = λ y. absurd (no (sym y)) };
+      ready = record { kept = record { sits = λ y. absurd (false≢true y); fine = λ y. absurd (false≢true y) }; holds = h .holds; fine = λ y. absurd (false≢true y) };
       is = ap (λ y. then {B = Carving} y (λ cs. refused x)) (list-of .1)
           ∙ sym (step-is ∙ ap (λ y. then y (λ o. carveOn t room o p (cellAt d 0 (countsAt n 0 (s .rest .faces))) (list-of .0))) (sym eo ∙ ap planed ex));
     }

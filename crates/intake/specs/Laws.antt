@@ -1,6 +1,6 @@
 -- Laws of the intake, in the words of the code.
 use mathlib.Core.Path.{_≡_, refl, sym, ap, ap₂, _∙_, subst}
-use mathlib.Core.Bool.{Bool, true, false, not, _&&_}
+use mathlib.Core.Bool.{Bool, true, false, not, _&&_, true≢false}
 use mathlib.Core.List.{List, [], _∷_, map}
 use Prim.Native.Nat.{ℕ, suc, _+_, _*_, _-_, _/_, _≤_, _<_}
 use native.Mathlib.Omega.{arith}
@@ -120,9 +120,6 @@ false-or : (b : Bool) → (b ≡ true → ⊥) → b ≡ false
 false-or true h = absurd (h refl)
 false-or false h = refl
 
-never : true ≡ false → ⊥
-never e = absurd (let z : _≡_ {A = ℕ} 0 1 = cc in omega arith)
-
 -- ---- a solid that is not unpacked
 
 module _ (t : Precision) (l : List ℕ) (a : Span) (P : Placed l (a .start) a) where
@@ -156,7 +153,7 @@ module _ (t : Precision) (l : List ℕ) (a : Span) (P : Placed l (a .start) a) w
       let r = sound-round (a .points) (S .faces) g in
       let k : a .corners ≤ 384 = omega (arith, r, c .0, c .1, face-count l a, ap total (counts-from l (a .start) a P), total-from l (a .start) a P) in
       let y : small a ≡ true = ap₂ (λ x z. x && z) (ap₂ (λ x z. x && z) (le-leb (a .points) 128 (c .0)) (le-leb (a .faces) 64 (c .1))) (le-leb (a .corners) 384 k) in
-      never (sym y ∙ h))
+      true≢false (sym y ∙ h))
 
   pub large-numbers : (r : Refusal) → r ≡ refusalOf 2 → fairAll ps ≡ false → D.Refused r ≡ verdictOf (check true t S)
   unfolding verdictOf
@@ -285,7 +282,7 @@ module _ (t : Precision) (l : List ℕ) (a : Span) (P : Placed l (a .start) a) w
       let m : a .points ≤ 128 = omega (arith, p .points, solid-count l a) in
       let n : a .faces ≤ 64 = omega (arith, p .few, face-count l a) in
       let y : small a ≡ true = ap₂ (λ x z. x && z) (ap₂ (λ x z. x && z) (le-leb (a .points) 128 m) (le-leb (a .faces) 64 n)) (le-leb (a .corners) 384 k) in
-      never (sym y ∙ h)
+      true≢false (sym y ∙ h)
 
   pub large-took : (v : Verdict) (r : Taken) (s : List Float) (counts : List ℕ) → small a ≡ false → v ≡ verdictOf (check true t (solidAt l a)) → r ≡ takenAs v 0 → Took (check true t (solidAt l a)) r s counts
   large-took v r s counts h e g =

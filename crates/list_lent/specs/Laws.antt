@@ -1,6 +1,6 @@
 -- Laws of the tests on the slices, in the words of the code.
 use mathlib.Core.Path.{_≡_, refl, sym, ap, _∙_, subst}
-use mathlib.Core.Bool.{Bool, true, false, cond, not, _&&_}
+use mathlib.Core.Bool.{Bool, true, false, cond, not, _&&_, and-false}
 use mathlib.Core.List.{List, _∷_}
 use Prim.Native.Nat.{ℕ, _+_, _-_, _*_, _≤_, _<_}
 use native.Mathlib.Omega.{arith}
@@ -18,10 +18,6 @@ use Rattle.stack.specs.Stacks.{cellsAt, stackOf, Lies, Listed}
 use Rattle.stack.specs.Laws.{listed-refused}
 use Rattle.list_lent.specs.Lent.{among, allAmong, total, sums, totalBy, facesStand, stands, listIn}
 use Rattle.list_lent.specs.Lying.{lying, list-told}
-
-and-no : (b : Bool) → (b && false) ≡ false
-and-no true = refl
-and-no false = refl
 
 -- ---- a sum of numbers
 
@@ -66,7 +62,7 @@ module _ (low high most : ℕ) (s : List ℕ) (n sum i : ℕ) (more : i < n) (li
 
   pub adding-over : low ≤ x → x ≤ high → most - sum < x → most + 1 ≡ totalBy low high most (take n s)
   adding-over h g k =
-      sym (ap (λ b. cond b (sum + (x + total after)) (most + 1)) (and-no (allAmong low high after)))
+      sym (ap (λ b. cond b (sum + (x + total after)) (most + 1)) (and-false (allAmong low high after)))
       ∙ turn true true false (le-leb low x h) (le-leb x high g) (lt-leb (sum + (x + total after)) most (omega (arith, I .fits)))
 
   pub adding-step : low ≤ x → x ≤ high → x ≤ most - sum → Adding low high most s n (sum + x) (i + 1)
