@@ -11,7 +11,7 @@ use Rattle.sums.specs.Sum.{sum, hit, Each}
 use Rattle.sums.specs.Keys.{put, keep}
 use Rattle.sums.specs.KeyLaws.{sum-append, all-each, each-all, each-map, each-imp, each-append, lone-in}
 use Rattle.sums.specs.Components.{components}
-use Rattle.sums.specs.ComponentLaws.{Ascend, Components, components-found}
+use Rattle.sums.specs.ComponentLaws.{Components, components-found, none-empty}
 use Rattle.groups.specs.Groups.{joined}
 use Rattle.bodies.specs.Fusing.{Facet, Sense, Bodies, keys, facesOf, runs, neighbors, shellsOf, bodyOf, materials, fuse}
 use Rattle.bodies.specs.Passed.{made-each}
@@ -49,10 +49,6 @@ sum-shells : (f : ℕ → ℕ) (bs : Bodies) → sum f (joined (shellsIn bs)) �
 unfolding shellsIn sum
 sum-shells f [] = unfold joined in refl
 sum-shells f (b ∷ bs) = ap (sum f) (joined-both b (shellsIn bs)) ∙ sum-append f (joined b) (joined (shellsIn bs)) ∙ omega (arith, sum-joined f b, sum-shells f bs)
-
-none-empty : (a : ℕ) (gs : List (List ℕ)) → Ascend a gs → Each (λ g. 0 < length g) gs
-none-empty a [] w = tt
-none-empty a (g ∷ gs) w = (omega (arith, ap length (w .2)), none-empty (suc (w .0)) gs (w .5))
 
 each-put : {A : Type 0} (P : A → Type 0) (t : ℕ) (x : A) (l : List A) → P x → Each P l → Each P (put t x l)
 unfolding put
