@@ -5,10 +5,11 @@ use Prim.Native.Nat.{ℕ, zero, suc, _+_, _*_, _≤_, _<_}
 use native.Mathlib.Omega.{arith}
 use native.Mathlib.Nat.{not-suc-le-zero, le-of-suc-le-suc}
 use lib.ListN.{length, take, drop, getD, replicate, length-append}
-use lib.Seq.{sets, sets-eq, length-sets, take-at, drop-nil, getD-take}
+use lib.Seq.{sets-eq, length-sets, drop-nil, getD-take}
 use lib.Ieee.{Float}
 use Rattle.refusal.specs.Outcome.{Outcome, ok}
 use Rattle.refusal.specs.Laws.{same-ok, then-ok}
+use Rattle.lists.specs.Laws.{front-stored}
 use Rattle.space.specs.declared.Precision.{Precision}
 use Rattle.space.specs.Shapes.{Cell}
 use Rattle.polygon.specs.Memory.{floatsOf}
@@ -91,9 +92,6 @@ unfolding bounds
 length-bounds a [] = refl
 length-bounds a (f ∷ fs) = ap suc (length-bounds (a + length f) fs)
 
-front : {A : Type 0} (l s : List A) (m : ℕ) → m ≡ length l → length l ≤ length s → take m (sets s 0 l) ≡ l
-front l s m e h = ap (take m) (sets-eq l s 0 (omega arith)) ∙ take-at l (drop (0 + length l) s) m (sym e)
-
 module _ {o : Outcome Arrangement} {p₀ : List Float} {c₀ s₀ w₀ : List ℕ} {p : List Float} {c s w : List ℕ} {r : Layout} (L : Laid o p₀ c₀ s₀ w₀ p c s w r)
     {a : Arrangement} (e : o ≡ ok a) {room k : ℕ} (G : Facets a room k) (cycles : room ≤ length c₀) (starts : room < length s₀) where
   pub vertices-many : r .vertices ≡ length (flat (a .cycles))
@@ -106,7 +104,7 @@ module _ {o : Outcome Arrangement} {p₀ : List Float} {c₀ s₀ w₀ : List �
 
   -- the vertices of all cycles, one behind another
   pub vertices-are : take (r .vertices) c ≡ flat (a .cycles)
-  vertices-are = ap (take (r .vertices)) (L .cycles a e) ∙ front (flat (a .cycles)) c₀ (r .vertices) vertices-many (omega (arith, G .conforms .fit))
+  vertices-are = ap (take (r .vertices)) (L .cycles a e) ∙ front-stored (flat (a .cycles)) c₀ (r .vertices) vertices-many (omega (arith, G .conforms .fit))
 
   -- they are rows, as fusing takes them
   pub cycles-grouped : Grouped (a .cycles) [] s₀ (take (r .vertices) c) s (r .facets)
@@ -134,5 +132,5 @@ module _ {o : Outcome Arrangement} {p₀ : List Float} {c₀ s₀ w₀ : List �
   pub owners-cells : room ≤ length w₀ → (i : ℕ) → i < r .facets → getD w i 0 < k
   owners-cells h i q =
       let m : r .facets ≡ length (a .owners) = facets-many ∙ sym (G .owned) in
-      let u : take (r .facets) w ≡ a .owners = ap (take (r .facets)) (L .owners a e) ∙ front (a .owners) w₀ (r .facets) m (omega (arith, G .owned, G .many)) in
+      let u : take (r .facets) w ≡ a .owners = ap (take (r .facets)) (L .owners a e) ∙ front-stored (a .owners) w₀ (r .facets) m (omega (arith, G .owned, G .many)) in
       subst (λ x. x < k) (ap (λ l. getD l i 0) (sym u) ∙ getD-take (r .facets) w i 0 q) (all-get (λ x. x < k) (a .owners) i 0 (G .owners) (omega (arith, m)))

@@ -4,14 +4,15 @@ use mathlib.Core.Bool.{true, false, true≢false, false≢true}
 use mathlib.Core.List.{List}
 use Prim.Native.Nat.{ℕ, _+_, _*_, _≤_}
 use native.Mathlib.Omega.{arith}
-use lib.ListN.{length, take, drop}
-use lib.Seq.{sets, sets-eq, take-at, length-sets}
+use lib.ListN.{length, take}
+use lib.Seq.{sets, length-sets}
 use lib.Ieee.{Float}
 use Rattle.refusal.specs.declared.Refusal.{Refusal}
 use Rattle.refusal.specs.declared.Verdict.{Verdict}
 use Rattle.refusal.specs.declared.Verdict.the-variants.{Fine, Refused}
 use Rattle.refusal.specs.Outcome.{Outcome, ok, refused, then, heard}
 use Rattle.refusal.specs.Laws.{never-ok}
+use Rattle.lists.specs.Laws.{front-stored}
 use Rattle.space.specs.declared.Plane.{Plane}
 use Rattle.space.specs.declared.Planed.{Planed}
 use Rattle.space.specs.declared.Planed.the-variants as P
@@ -37,16 +38,11 @@ use Rattle.carving.specs.Rests.{partAt, restAt, Sits, Kept, Left, Place,
 
 -- ---- the remainder
 
--- what was stored at the front is there
-front-stored : {A : Type 0} (d vs : List A) (n : ℕ) → n ≡ length vs → length vs ≤ length d → take n (sets d 0 vs) ≡ vs
-front-stored d vs n e h =
-    ap (take n) (sets-eq vs d 0 (omega arith)) ∙ take-at vs (drop (0 + length vs) d) n (sym e)
-
 -- a cell that was copied to the front of a room sits there
 module _ (c : Cell) (d : List Float) (n : List ℕ) (h : length (cellFloats c) ≤ length d) (g : length c ≤ length n) where
   cell-copied : cellAt (sets d 0 (cellFloats c)) 0 (countsAt (sets n 0 (cellCounts c)) 0 (length c)) ≡ c
   cell-copied =
-      ap (cellAt (sets d 0 (cellFloats c)) 0) (front-stored n (cellCounts c) (length c) (sym (length-cellCounts c)) (omega (arith, length-cellCounts c)))
+      ap (cellAt (sets d 0 (cellFloats c)) 0) (front-stored (cellCounts c) n (length c) (sym (length-cellCounts c)) (omega (arith, length-cellCounts c)))
       ∙ cell-stored d 0 c (omega arith)
 
 module _ (t : Precision) (room : ℕ) (w : Plane) (c : Cell) where
@@ -69,14 +65,14 @@ module _ (t : Precision) (room : ℕ) (w : Plane) (c : Cell) where
         let l = length-cellFloats (x .cell) in
         let i = length-cellCounts (x .cell) in
         let e1 : take (12 * f + 3 * m) s′ ≡ cellFloats (x .cell) =
-        ap (take (12 * f + 3 * m)) (x .floats) ∙ front-stored s (cellFloats (x .cell)) (12 * f + 3 * m) (omega (arith, l, x .sized .0, x .sized .1)) (omega (arith, l, b .few, b .fit, ls .place)) in
+        ap (take (12 * f + 3 * m)) (x .floats) ∙ front-stored (cellFloats (x .cell)) s (12 * f + 3 * m) (omega (arith, l, x .sized .0, x .sized .1)) (omega (arith, l, b .few, b .fit, ls .place)) in
         let e2 : take f k′ ≡ cellCounts (x .cell) =
-        ap (take f) (x .counts) ∙ front-stored k (cellCounts (x .cell)) f (omega (arith, i, x .sized .0)) (omega (arith, i, b .few, ls .slots)) in
+        ap (take f) (x .counts) ∙ front-stored (cellCounts (x .cell)) k f (omega (arith, i, x .sized .0)) (omega (arith, i, b .few, ls .slots)) in
         let h : length (cellFloats (x .cell)) ≤ length d = omega (arith, l, b .few, b .fit, ld .place) in
         let g : length (x .cell) ≤ length n = omega (arith, b .few, ld .slots) in
         let q = cell-copied (x .cell) d n h g in
         let u : countsAt (sets n 0 (cellCounts (x .cell))) 0 (length (x .cell)) ≡ cellCounts (x .cell) =
-        front-stored n (cellCounts (x .cell)) (length (x .cell)) (sym i) (omega (arith, i)) in
+        front-stored (cellCounts (x .cell)) n (length (x .cell)) (sym i) (omega (arith, i)) in
         let base : Sits (length (x .cell)) (sets d 0 (cellFloats (x .cell))) (sets n 0 (cellCounts (x .cell))) = record {
           given = record {
             listed = omega (arith, length-sets n 0 (cellCounts (x .cell)));

@@ -4,12 +4,13 @@ use mathlib.Core.List.{List, [], _∷_, _++_, append-nil}
 use Prim.Native.Nat.{ℕ, suc, _+_, _*_, _≤_, _<_}
 use native.Mathlib.Omega.{arith}
 use lib.ListN.{length, take, drop, getD}
-use lib.Seq.{sets, sets-eq, length-sets, length-take-le, length-slice, take-at, drop-nil, drop-length, getD-take}
+use lib.Seq.{sets, sets-eq, length-sets, length-take-le, length-slice, drop-nil, drop-length, getD-take}
 use lib.Ieee.{Float}
 use Rattle.refusal.specs.declared.Refusal.{Refusal}
 use Rattle.refusal.specs.declared.Verdict.the-variants.{Fine, Refused}
 use Rattle.refusal.specs.Outcome.{Outcome, ok, refused, then, heard}
 use Rattle.refusal.specs.Laws.{stop, go, same-ok, then-ok}
+use Rattle.lists.specs.Laws.{front-stored}
 use Rattle.space.specs.declared.Precision.{Precision}
 use Rattle.space.specs.Shapes.{Cell, corners}
 use Rattle.polygon.specs.Memory.{floatsOf}
@@ -40,9 +41,6 @@ use Rattle.fused.specs.Bodies.{fuseIn}
 use Rattle.fused.specs.Laws.{fuse-is}
 use Rattle.fuse_list.specs.Lists.{bodiesOf, fuseAt, Ready, Told}
 
-front : {A : Type 0} (l s : List A) (m : ℕ) → m ≡ length l → length l ≤ length s → take m (sets s 0 l) ≡ l
-front l s m e h = ap (take m) (sets-eq l s 0 (omega arith)) ∙ take-at l (drop (0 + length l) s) m (sym e)
-
 over : {A : Type 0} (l : List A) → sets l 0 l ≡ l
 over l =
     let z : 0 + length l ≡ length l = omega arith in
@@ -63,13 +61,13 @@ module _ {o : Outcome Arrangement} {p₀ : List Float} {c₀ s₀ w₀ : List �
   points-many = ap (λ x. x .points) (L .is ∙ ap laidOf e)
 
   pub points-are : take (3 * y .points) p ≡ floatsOf (a .points)
-  points-are = ap (take (3 * y .points)) (L .points a e) ∙ front (floatsOf (a .points)) p₀ (3 * y .points) (omega (arith, points-many, length-floatsOf (a .points))) (omega (arith, length-floatsOf (a .points), few, points))
+  points-are = ap (take (3 * y .points)) (L .points a e) ∙ front-stored (floatsOf (a .points)) p₀ (3 * y .points) (omega (arith, points-many, length-floatsOf (a .points))) (omega (arith, length-floatsOf (a .points), few, points))
 
   pub starts-are : take (y .facets + 1) s ≡ bounds 0 (a .cycles)
-  starts-are = ap (take (y .facets + 1)) (L .starts a e) ∙ front (bounds 0 (a .cycles)) s₀ (y .facets + 1) (omega (arith, facets-many L e G cycles starts, length-bounds 0 (a .cycles))) (omega (arith, length-bounds 0 (a .cycles), G .many, starts))
+  starts-are = ap (take (y .facets + 1)) (L .starts a e) ∙ front-stored (bounds 0 (a .cycles)) s₀ (y .facets + 1) (omega (arith, facets-many L e G cycles starts, length-bounds 0 (a .cycles))) (omega (arith, length-bounds 0 (a .cycles), G .many, starts))
 
   pub owners-are : take (y .facets) w ≡ a .owners
-  owners-are = ap (take (y .facets)) (L .owners a e) ∙ front (a .owners) w₀ (y .facets) (omega (arith, facets-many L e G cycles starts, G .owned)) (omega (arith, G .owned, G .many, owners))
+  owners-are = ap (take (y .facets)) (L .owners a e) ∙ front-stored (a .owners) w₀ (y .facets) (omega (arith, facets-many L e G cycles starts, G .owned)) (omega (arith, G .owned, G .many, owners))
 
   -- the points alone
   exact : Laid o (floatsOf (a .points)) c₀ s₀ w₀ (take (3 * y .points) p) c s w y
