@@ -20,7 +20,7 @@ use Rattle.stack.specs.Stacks.{cellsSizes, Sound}
 use Rattle.merge.specs.Merge.{ownersFrom}
 use Rattle.arrange.specs.Arrange.{arrange}
 use Rattle.arrange.specs.Merged.{Below}
-use Rattle.groups.specs.Groups.{joined, bounds, Grouped}
+use Rattle.groups.specs.Groups.{joined, bounds, Grouped, length-bounds}
 use Rattle.arrangement.specs.declared.Layout.{Layout}
 use Rattle.arrangement.specs.Arrangements.{facesOf, Arrangement, arrangeCells, laidOf, Laid}
 use Rattle.arrangement.specs.Conforming.{Conforms, arranged-many, arranged}
@@ -86,11 +86,6 @@ joined-flat : (fs : List (List ℕ)) → joined fs ≡ flat fs
 unfolding joined flat
 joined-flat [] = refl
 joined-flat (f ∷ fs) = ap (λ l. f ++ l) (joined-flat fs)
-
-length-bounds : (a : ℕ) (fs : List (List ℕ)) → length (bounds a fs) ≡ suc (length fs)
-unfolding bounds
-length-bounds a [] = refl
-length-bounds a (f ∷ fs) = ap suc (length-bounds (a + length f) fs)
 
 module _ {o : Outcome Arrangement} {p₀ : List Float} {c₀ s₀ w₀ : List ℕ} {p : List Float} {c s w : List ℕ} {r : Layout} (L : Laid o p₀ c₀ s₀ w₀ p c s w r)
     {a : Arrangement} (e : o ≡ ok a) {room k : ℕ} (G : Facets a room k) (cycles : room ≤ length c₀) (starts : room < length s₀) where

@@ -1,7 +1,7 @@
 -- What an answer of `fuse` tells: demand 3 of its bodies, and that its slices name facets of the arrangement.
 use mathlib.Core.Path.{_≡_, refl, sym, ap, _∙_, subst}
 use mathlib.Core.List.{List, [], _∷_, map}
-use Prim.Native.Nat.{ℕ, zero, suc, _+_, _≤_, _<_}
+use Prim.Native.Nat.{ℕ, zero, suc, _≤_, _<_}
 use native.Mathlib.Omega.{arith}
 use lib.ListN.{length, getD, length-append, length-map}
 use Rattle.refusal.specs.declared.Verdict.{Verdict}
@@ -12,7 +12,7 @@ use Rattle.sums.specs.Keys.{put, keep}
 use Rattle.sums.specs.KeyLaws.{sum-append, all-each, each-all, each-map, each-imp, each-append, lone-in}
 use Rattle.sums.specs.Components.{components}
 use Rattle.sums.specs.ComponentLaws.{Components, components-found, none-empty}
-use Rattle.groups.specs.Groups.{joined}
+use Rattle.groups.specs.Groups.{joined, sum-joined}
 use Rattle.bodies.specs.Fusing.{Facet, Sense, Bodies, keys, facesOf, runs, neighbors, shellsOf, bodyOf, materials, fuse}
 use Rattle.bodies.specs.Passed.{made-each}
 use Rattle.bodies.specs.ListLaws.{Valid, size, answered, listed-weight, isOutward, isInward, outOf, inOf, BodyMade, body-made, edges-graph}
@@ -39,11 +39,6 @@ pub record Sound (volume : List ℕ → Outcome Sense) (fs : List Facet) (n : �
   -- each listed facet is one of the arrangement; each body has a shell, and each shell a facet
   pub inside : Each (λ i. i < length fs) (joined (shellsIn bodies))
   pub full : Each Full bodies
-
-sum-joined : (f : ℕ → ℕ) (gs : List (List ℕ)) → sum f (joined gs) ≡ sum (sum f) gs
-unfolding joined sum
-sum-joined f [] = refl
-sum-joined f (g ∷ gs) = sum-append f g (joined gs) ∙ ap (λ n. sum f g + n) (sum-joined f gs)
 
 sum-shells : (f : ℕ → ℕ) (bs : Bodies) → sum f (joined (shellsIn bs)) ≡ sum (sum (sum f)) bs
 unfolding shellsIn sum

@@ -1,7 +1,7 @@
 -- An arrangement that was laid out is one that fusing takes, and its bodies are those of the list.
 use mathlib.Core.Path.{_≡_, refl, sym, ap, ap₂, _∙_, subst}
-use mathlib.Core.List.{List, [], _∷_, _++_, append-nil}
-use Prim.Native.Nat.{ℕ, suc, _+_, _*_, _≤_, _<_}
+use mathlib.Core.List.{List, [], _++_, append-nil}
+use Prim.Native.Nat.{ℕ, _+_, _*_, _≤_, _<_}
 use native.Mathlib.Omega.{arith}
 use lib.ListN.{length, take, drop, getD}
 use lib.Seq.{sets, sets-eq, length-sets, length-take-le, length-slice, drop-nil, drop-length, getD-take}
@@ -24,7 +24,7 @@ use Rattle.stack.specs.declared.Stack.{Stack}
 use Rattle.stack.specs.Stacks.{cellsAt, stackOf, listAt, Sound, Holds}
 use Rattle.stack.specs.Laws.{numbers}
 use Rattle.keys.specs.Rows.{Starts, row, rows, row-at}
-use Rattle.groups.specs.Groups.{bounds, Grouped}
+use Rattle.groups.specs.Groups.{bounds, Grouped, length-bounds}
 use Rattle.fusing.specs.Groups.{grouped-starts, grouped-rows}
 use Rattle.fusing.specs.Bench.{Cycles}
 use Rattle.bodies.specs.Fusing.{fuse}
@@ -45,11 +45,6 @@ over : {A : Type 0} (l : List A) → sets l 0 l ≡ l
 over l =
     let z : 0 + length l ≡ length l = omega arith in
     sets-eq l l 0 (omega arith) ∙ ap (λ k. l ++ drop k l) z ∙ ap (λ r. l ++ r) (drop-length l) ∙ append-nil l
-
-length-bounds : (a : ℕ) (fs : List (List ℕ)) → length (bounds a fs) ≡ suc (length fs)
-unfolding bounds
-length-bounds a [] = refl
-length-bounds a (f ∷ fs) = ap suc (length-bounds (a + length f) fs)
 
 -- ---- the slices' fronts are the arrangement
 

@@ -12,7 +12,7 @@ use Rattle.sums.specs.Sum.{sum, open′, open-le, flagged-one, sum-one, flagged
 use Rattle.sums.specs.Components.{Got, start, gather, comps, components}
 use Rattle.sums.specs.ComponentLaws.{comps-new, comps-old, root-weight, root-size}
 use Rattle.sums.specs.Keys.{nbrs}
-use Rattle.sums.specs.KeyLaws.{drop-up}
+use Rattle.sums.specs.KeyLaws.{drop-up, sum-append}
 use Rattle.groups.specs.Chain.{Inside, Linked, around, pairsOf}
 use Rattle.groups.specs.Stack.{Net, linked-net, getD-any}
 use Rattle.groups.specs.Walk.{Walked}
@@ -44,10 +44,16 @@ bounds-snoc a (h ∷ gs) g =
     let z : a + length h + length (joined gs) + length g ≡ a + length (h ++ joined gs) + length g = omega (arith, length-append h (joined gs)) in
     ap (λ l. a ∷ l) (bounds-snoc (a + length h) gs g ∙ ap (λ n. bounds (a + length h) gs ++ (n ∷ [])) z)
 
-length-bounds : (a : ℕ) (gs : List (List ℕ)) → length (bounds a gs) ≡ suc (length gs)
+pub length-bounds : (a : ℕ) (gs : List (List ℕ)) → length (bounds a gs) ≡ suc (length gs)
 unfolding bounds
 length-bounds a [] = refl
 length-bounds a (g ∷ gs) = ap suc (length-bounds (a + length g) gs)
+
+-- a sum over all groups, group by group
+pub sum-joined : (f : ℕ → ℕ) (gs : List (List ℕ)) → sum f (joined gs) ≡ sum (sum f) gs
+unfolding joined sum
+sum-joined f [] = refl
+sum-joined f (g ∷ gs) = sum-append f g (joined gs) ∙ ap (λ n. sum f g + n) (sum-joined f gs)
 
 last-bound : (a : ℕ) (gs : List (List ℕ)) → getD (bounds a gs) (length gs) 0 ≡ a + length (joined gs)
 unfolding joined bounds
