@@ -13,8 +13,9 @@ use Rattle.space.specs.Shapes.{Face, Cell, Solid}
 use Rattle.words.specs.Little.{digits, floatBytes}
 use Rattle.words.specs.Laws.{length-digits, length-float}
 use Rattle.polygon.specs.Memory.{pointAt, pointsAt}
+use Rattle.polygon.specs.MemoryLaws.{length-pointsAt}
 use Rattle.room.specs.Rooms.{countsAt, planeAt, faceAt, cellAt, Within}
-use Rattle.room.specs.Laws.{sets-append, length-pointsAt, next-count, counts-done, cell-next, cell-none, within-rest, within-le}
+use Rattle.room.specs.Laws.{sets-append, next-count, counts-done, cell-next, cell-none, within-rest, within-le}
 use Rattle.job.specs.Written.{pointBytes}
 use Rattle.solids.specs.Frames.{facesAt}
 use Rattle.solids.specs.Faces.{length-face}

@@ -20,8 +20,9 @@ use Rattle.space.specs.declared.Precision.{Precision}
 use Rattle.space.specs.Shapes.{Face, Cell, corners}
 use Rattle.side.specs.Sides.{oppositeOf}
 use Rattle.polygon.specs.Memory.{floats, floatsOf, pointAt, pointsAt}
+use Rattle.polygon.specs.MemoryLaws.{length-pointsAt}
 use Rattle.room.specs.Rooms.{planeFloats, cellFloats, cellCounts, faceAt, cellAt, countsAt}
-use Rattle.room.specs.Laws.{sets-append, sets-point, point-of, length-pointsAt, corners-cons, corners-none, corners-snoc, within-le}
+use Rattle.room.specs.Laws.{sets-append, sets-point, point-of, corners-cons, corners-none, corners-snoc, within-le}
 use Rattle.cell.specs.Laws.{Ahead, ahead-next, ahead-inside, ahead-face, ahead-done}
 use Rattle.bounds.specs.Bounds.{against, Lies}
 use Rattle.offset.specs.Stored.{FaceMoved, CellMoved, Place}

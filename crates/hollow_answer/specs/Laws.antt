@@ -15,8 +15,9 @@ use Rattle.refusal.specs.Laws.{stop, go, same-ok, then-ok}
 use Rattle.space.specs.declared.Precision.{Precision}
 use Rattle.space.specs.Shapes.{Face, Cell, corners}
 use Rattle.polygon.specs.Memory.{pointAt, pointsAt}
+use Rattle.polygon.specs.MemoryLaws.{length-pointsAt}
 use Rattle.room.specs.Rooms.{cellFloats, cellCounts, faceAt, cellAt, countsAt, Within}
-use Rattle.room.specs.Laws.{corners-cons, corners-none, length-cellFloats, length-cellCounts, cell-stored, points-before, within-le, length-pointsAt}
+use Rattle.room.specs.Laws.{corners-cons, corners-none, length-cellFloats, length-cellCounts, cell-stored, points-before, within-le}
 use Rattle.words.specs.Little.{digits}
 use Rattle.solids.specs.Faces.{length-face}
 use Rattle.bounds.specs.Bounds.{against, Lies}

@@ -19,11 +19,12 @@ use Rattle.space.specs.declared.Closeness.the-variants.{Near, Apart, Refused}
 use Rattle.space.specs.Near.{nearOf}
 use Rattle.space.specs.Shapes.{Face, Cell, Solid, corners}
 use Rattle.polygon.specs.Memory.{floats, floatsOf, pointAt, pointsAt}
+use Rattle.polygon.specs.MemoryLaws.{length-pointsAt}
 use Rattle.room.specs.Rooms.{Within, cellAt, faceAt, countsAt}
 use Rattle.lists.specs.Walks.{Numbered, numbered}
 use Rattle.room.specs.Numbered.{next-numbered, numbered-done}
 use Rattle.room.specs.Stores.{sets-over}
-use Rattle.room.specs.Laws.{sets-append, sets-point, points-more, points-stored, next-point, points-done, next-count, counts-done, cell-next, cell-none, within-small, within-rest, within-le, corners-cons, length-pointsAt, length-floatsOf}
+use Rattle.room.specs.Laws.{sets-append, sets-point, points-more, points-stored, next-point, points-done, next-count, counts-done, cell-next, cell-none, within-small, within-rest, within-le, corners-cons, length-floatsOf}
 use Rattle.indexed.specs.declared.Pick.{Pick}
 use Rattle.indexed.specs.declared.Pick.the-variants.{First, Only}
 use Rattle.indexed.specs.declared.Counted.{Counted}

@@ -16,8 +16,9 @@ use Rattle.refusal.specs.Tests.{and-true}
 use Rattle.space.specs.Shapes.{Cell, corners, allCorners}
 use Rattle.polygon.specs.Memory.{floats, floatsOf, pointAt, pointsAt}
 use Rattle.polygon.specs.Members.{All}
+use Rattle.polygon.specs.MemoryLaws.{length-pointsAt}
 use Rattle.room.specs.Rooms.{planeFloats, planeAt, faceFloats, faceAt, cellFloats, cellCounts, cellAt, Small}
-use Rattle.room.specs.Laws.{sets-append, sets-plane, length-pointsAt, length-floatsOf, length-cellCounts, corners-cons, corners-none}
+use Rattle.room.specs.Laws.{sets-append, sets-plane, length-floatsOf, length-cellCounts, corners-cons, corners-none}
 use Rattle.clip.specs.Clips.{Wide}
 use Rattle.indexed.specs.Laws.{points-kept}
 use Rattle.stack.specs.Stacks.{cellsFloats, cellsCounts, cellsSizes, behind, cellsAt, stackOf, Front, Sound, Lies}

@@ -16,8 +16,9 @@ use Rattle.refusal.specs.Laws.{stop, go, same-ok, then-ok}
 use Rattle.space.specs.declared.Precision.{Precision}
 use Rattle.space.specs.Shapes.{Cell, Solid, corners}
 use Rattle.polygon.specs.Memory.{floatsOf, pointsAt}
+use Rattle.polygon.specs.MemoryLaws.{length-pointsAt}
 use Rattle.room.specs.Rooms.{cellCounts, cellAt, countsAt}
-use Rattle.room.specs.Laws.{corners-cons, corners-none, length-pointsAt}
+use Rattle.room.specs.Laws.{corners-cons, corners-none}
 use Rattle.indexed.specs.declared.Counted.{Counted}
 use Rattle.indexed.specs.declared.Counted.the-variants as C
 use Rattle.indexed.specs.Indexed.{indexed}

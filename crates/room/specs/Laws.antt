@@ -20,6 +20,8 @@ use Rattle.polygon.specs.declared.Polygon.{Polygon}
 use Rattle.polygon.specs.Polygons.{polygon}
 use Rattle.polygon.specs.Memory.{floats, floatsOf, pointAt, pointsAt}
 use Rattle.polygon.specs.Members.{All}
+use Rattle.polygon.specs.MemoryLaws as M
+use Rattle.polygon.specs.MemoryLaws.{length-pointsAt, point-stored}
 use Rattle.room.specs.Rooms.{planeFloats, planeAt, faceFloats, cellFloats, cellCounts, faceAt, cellAt, countsAt, Within, In, Small}
 
 -- ---- runs of stores
@@ -59,11 +61,6 @@ fill-all n v d h k =
     rw (drop-of-length-le d k, e, append-nil)
 
 -- ---- lengths
-
-pub length-pointsAt : (s : List Float) (i n : ℕ) → length (pointsAt s i n) ≡ n
-unfolding pointsAt
-length-pointsAt s i zero = refl
-length-pointsAt s i (suc n) = ap suc (length-pointsAt s (i + 3) n)
 
 pub length-floatsOf : (l : List Point3) → length (floatsOf l) ≡ 3 * length l
 length-floatsOf [] = refl
@@ -305,25 +302,12 @@ points-before s i (suc n) j vs h =
     let p : pointAt (sets s j vs) i ≡ pointAt s i = λ k. record { x = x k; y = y k; z = z k } in
     cc (p, points-before s (i + 3) n j vs (omega arith))
 
-points-snoc : (s : List Float) (i n : ℕ) → pointsAt s i (suc n) ≡ pointsAt s i n ++ (pointAt s (i + 3 * n) ∷ [])
-unfolding pointsAt
-points-snoc s i zero = ap (λ k. pointAt s k ∷ []) (omega arith)
-points-snoc s i (suc n) =
-    ap (λ l. pointAt s i ∷ l) (points-snoc s (i + 3) n) ∙ ap (λ k. pointAt s i ∷ (pointsAt s (i + 3) n ++ (pointAt s k ∷ []))) (omega arith)
-
-point-put : (s : List Float) (j : ℕ) (q : Point3) → j + 3 ≤ length s → pointAt (sets s j (floats q)) j ≡ q
-point-put s j q h =
-    let e : sets s j (floats q) ≡ take j s ++ (floats q ++ drop (j + 3) s) = sets-eq (floats q) s j h ∙ append-assoc (take j s) (floats q) (drop (j + 3) s) in
-    let k : j ≡ length (take j s) = sym (length-take j s ∙ omega arith) in
-    ap (λ m. pointAt m j) e ∙ point-back (take j s) q (drop (j + 3) s) j k
-
 pub points-put : (s : List Float) (n : ℕ) (q : Point3) → 3 * n + 3 ≤ length s → pointsAt (sets s (3 * n) (floats q)) 0 (n + 1) ≡ pointsAt s 0 n ++ (q ∷ [])
 points-put s n q h =
-    ap (pointsAt (sets s (3 * n) (floats q)) 0) (add-one n)
-    ∙ points-snoc (sets s (3 * n) (floats q)) 0 n
+    M.points-more (sets s (3 * n) (floats q)) 0 n
     ∙ ap (λ l. l ++ (pointAt (sets s (3 * n) (floats q)) (0 + 3 * n) ∷ [])) (points-before s 0 n (3 * n) (floats q) (omega arith))
     ∙ ap (λ k. pointsAt s 0 n ++ (pointAt (sets s (3 * n) (floats q)) k ∷ [])) (omega arith)
-    ∙ ap (λ p. pointsAt s 0 n ++ (p ∷ [])) (point-put s (3 * n) q h)
+    ∙ ap (λ p. pointsAt s 0 n ++ (p ∷ [])) (point-stored s (3 * n) q h)
 
 -- ---- a walk round the points in a slice: the next edge and the rest
 

@@ -17,8 +17,8 @@ use Rattle.space.specs.declared.Plane.{Plane}
 use Rattle.space.specs.declared.Precision.{Precision}
 use Rattle.space.specs.Shapes.{Cell, Solid}
 use Rattle.polygon.specs.Memory.{pointsAt}
+use Rattle.polygon.specs.MemoryLaws.{length-pointsAt}
 use Rattle.room.specs.Rooms.{countsAt, cellFloats, cellCounts}
-use Rattle.room.specs.Laws.{length-pointsAt}
 use Rattle.solids.specs.Apart.{firstOf, eachIn}
 use Rattle.solids.specs.Frames.{pointOf, planeFor, facesAt, framedAll, Placing}
 use Rattle.solids.specs.Faces.{placing-le}

@@ -18,8 +18,9 @@ use Rattle.space.specs.declared.Precision.{Precision}
 use Rattle.space.specs.Vector.{origin}
 use Rattle.space.specs.Frames.{facePlane}
 use Rattle.polygon.specs.Memory.{pointAt, pointsAt}
+use Rattle.polygon.specs.MemoryLaws.{length-pointsAt}
 use Rattle.room.specs.Rooms.{countsAt}
-use Rattle.room.specs.Laws.{next-point, points-done, next-count, counts-done, point-of, length-pointsAt}
+use Rattle.room.specs.Laws.{next-point, points-done, next-count, counts-done, point-of}
 use Rattle.lists.specs.Walks.{all}
 use Rattle.solids.specs.Apart.{firstOf, eachIn, apartAll}
 use Rattle.solids.specs.Frames.{pointOf, planeFor, facesAt, framedAll, Placing, sidesAll}

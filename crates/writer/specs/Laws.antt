@@ -13,8 +13,9 @@ use Rattle.space.specs.Shapes.{Solid}
 use Rattle.words.specs.Little.{digits, floatBytes}
 use Rattle.words.specs.Laws.{length-digits, length-float}
 use Rattle.polygon.specs.Memory.{pointsAt}
+use Rattle.polygon.specs.MemoryLaws.{length-pointsAt}
 use Rattle.room.specs.Rooms.{countsAt}
-use Rattle.room.specs.Laws.{sets-append, next-count, counts-done, length-pointsAt}
+use Rattle.room.specs.Laws.{sets-append, next-count, counts-done}
 use Rattle.job.specs.declared.Operation.{Operation}
 use Rattle.job.specs.Bytes.{recordsTo, facesTo, solidTo, jobBytes, operationByte}
 use Rattle.job.specs.Written.{precisionBytes, pointBytes, solidBodies, jobBodies}
