@@ -15,7 +15,7 @@ use Rattle.words.specs.Laws.{length-digits, length-float}
 use Rattle.polygon.specs.Memory.{pointAt, pointsAt}
 use Rattle.polygon.specs.MemoryLaws.{length-pointsAt}
 use Rattle.room.specs.Rooms.{countsAt, planeAt, faceAt, cellAt, Within}
-use Rattle.room.specs.Laws.{sets-append, next-count, counts-done, cell-next, cell-none, within-rest, within-le}
+use Rattle.room.specs.Laws.{sets-append, next-count, counts-done, cell-next, cell-none, within-rest, within-le, cell-faces}
 use Rattle.job.specs.Written.{pointBytes}
 use Rattle.solids.specs.Frames.{facesAt}
 use Rattle.solids.specs.Faces.{length-face}
@@ -232,17 +232,12 @@ facets-end {s} {from} {sizes} {j} {faces} {out₀} {at} {out} {o} {p} {i} v h =
 
 -- ---- a shell
 
-length-cell : (s : List Float) (from : ℕ) (ns : List ℕ) → length (cellAt s from ns) ≡ length ns
-unfolding cellAt
-length-cell s from [] = refl
-length-cell s from (n ∷ ns) = ap suc (length-cell s (from + 12 + 3 * n) ns)
-
 module _ (sense : ℕ) (s : List Float) (from : ℕ) (sizes : List ℕ) (j faces : ℕ) (few : j + faces ≤ length sizes) where
   abbrev facets : List ℕ
   facets = row facetAnswer (cellAt s from (countsAt sizes j faces))
 
   number : length (cellAt s from (countsAt sizes j faces)) ≡ faces
-  number = length-cell s from (countsAt sizes j faces) ∙ length-face sizes j faces few
+  number = cell-faces s from sizes j faces few
 
   shell-parts : shellAnswer sense (cellAt s from (countsAt sizes j faces)) ≡ (sense ∷ digits 4 faces) ++ facets
   unfolding shellAnswer

@@ -22,7 +22,7 @@ use Rattle.space.specs.Near.{nearOf}
 use Rattle.space.specs.Shapes.{Face, Cell, Solid}
 use Rattle.polygon.specs.Members.{All}
 use Rattle.room.specs.Rooms.{cellCounts, countsAt, Small}
-use Rattle.room.specs.Laws.{all-none, all-snoc, all-map}
+use Rattle.room.specs.Laws.{all-none, all-snoc, all-map, all-get}
 use Rattle.indexed.specs.declared.Pick.the-variants.{Only}
 use Rattle.indexed.specs.Indexed.{met, onlyIn, searchBy, Places, joined, placed, indexPoint, withFace, indexFace, indexFaces}
 use Rattle.indexed.specs.Stored.{flat}
@@ -127,12 +127,6 @@ merge-below t c s e =
     subst (λ x. All (Below (length (x .points))) (x .faces) × (map length (x .faces) ≡ cellCounts c) × (length (x .points) ≤ 4096)) (y .1) (u .0, u .1, ltb-false 4096 (length (z .0 .points)) (y .0))
 
 -- ---- the places in a slice
-
-all-get : {A : Type 0} (p : A → Type 0) (l : List A) (x : ℕ) (d : A) → All p l → x < length l → p (getD l x d)
-unfolding All
-all-get p [] x d a h = absurd (not-suc-le-zero h)
-all-get p (y ∷ l) zero d a h = a .0
-all-get p (y ∷ l) (suc x) d a h = all-get p l x d (a .1) (le-of-suc-le-suc h)
 
 get-left : (l r : List ℕ) (x : ℕ) → x < length l → getD (l ++ r) x 0 ≡ getD l x 0
 get-left [] r x h = absurd (not-suc-le-zero h)

@@ -3,7 +3,6 @@ use mathlib.Core.Path.{_≡_, refl, sym, ap, _∙_, subst}
 use mathlib.Core.List.{List, [], _∷_, _++_, append-nil}
 use Prim.Native.Nat.{ℕ, zero, suc, _+_, _*_, _≤_, _<_}
 use native.Mathlib.Omega.{arith}
-use native.Mathlib.Nat.{not-suc-le-zero, le-of-suc-le-suc}
 use lib.ListN.{length, take, drop, getD, replicate, length-append}
 use lib.Seq.{sets-eq, length-sets, drop-nil, getD-take}
 use lib.Ieee.{Float}
@@ -14,7 +13,7 @@ use Rattle.space.specs.declared.Precision.{Precision}
 use Rattle.space.specs.Shapes.{Cell}
 use Rattle.polygon.specs.Memory.{floatsOf}
 use Rattle.polygon.specs.Members.{All, all-append}
-use Rattle.room.specs.Laws.{length-floatsOf}
+use Rattle.room.specs.Laws.{length-floatsOf, all-get}
 use Rattle.indexed.specs.Stored.{flat}
 use Rattle.stack.specs.Stacks.{cellsSizes, Sound}
 use Rattle.merge.specs.Merge.{ownersFrom}
@@ -70,12 +69,6 @@ arrangement-facets t room cs a e sound =
     record { conforms = q .0; few = q .1; many = q .2; owned = o .0; owners = o .1 }
 
 -- ---- of the slices
-
-all-get : {A : Type 0} (p : A → Type 0) (l : List A) (i : ℕ) (d : A) → All p l → i < length l → p (getD l i d)
-unfolding All
-all-get p [] i d a h = absurd (not-suc-le-zero h)
-all-get p (x ∷ l) zero d a h = a .0
-all-get p (x ∷ l) (suc i) d a h = all-get p l i d (a .1) (le-of-suc-le-suc h)
 
 all-flat : (p : ℕ → Type 0) (fs : List (List ℕ)) → All (All p) fs → All p (flat fs)
 unfolding All flat

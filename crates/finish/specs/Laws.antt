@@ -16,7 +16,7 @@ use Rattle.space.specs.declared.Precision.{Precision}
 use Rattle.space.specs.Shapes.{Cell, Solid, corners, allCorners}
 use Rattle.polygon.specs.Memory.{floatsOf}
 use Rattle.room.specs.Rooms.{cellFloats, cellCounts, cellAt, countsAt, Within}
-use Rattle.room.specs.Laws.{sets-append, next-count, counts-done, length-floatsOf, length-cellFloats, length-cellCounts}
+use Rattle.room.specs.Laws.{sets-append, next-count, counts-done, length-floatsOf, length-cellFloats, length-cellCounts, cell-counts}
 use Rattle.sums.specs.Sum.{sum}
 use Rattle.stack.specs.declared.Stack.{Stack}
 use Rattle.stack.specs.Stacks.{cellsFloats, cellsCounts, cellsSizes, cellsAt, stackOf, listAt, Lies, Holds, Front}
@@ -26,7 +26,6 @@ use Rattle.indexed.specs.declared.Counted.{Counted}
 use Rattle.indexed.specs.declared.Counted.the-variants as C
 use Rattle.indexed.specs.Indexed.{indexed}
 use Rattle.indexed.specs.Stored.{flat, Stored, Fits}
-use Rattle.offset.specs.Indexes.{cell-counts}
 use Rattle.built.specs.Built.{built, Bench}
 use Rattle.built.specs.Laws.{built-lengths}
 use Rattle.finish.specs.Finish.{finish, total, solidsFloats, solidsPlaces, solidsCounts, solidsSizes, solidsMarks, solidsAt, solidsTold, Lain, Finished, Holding, Shelf, Space, Behind}

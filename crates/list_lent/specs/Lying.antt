@@ -18,7 +18,7 @@ use Rattle.polygon.specs.Memory.{floats, floatsOf, pointAt, pointsAt}
 use Rattle.polygon.specs.Members.{All}
 use Rattle.polygon.specs.MemoryLaws.{length-pointsAt}
 use Rattle.room.specs.Rooms.{planeFloats, planeAt, faceFloats, faceAt, cellFloats, cellCounts, cellAt, Small}
-use Rattle.room.specs.Laws.{sets-append, sets-plane, length-floatsOf, length-cellCounts, corners-cons, corners-none}
+use Rattle.room.specs.Laws.{sets-append, sets-plane, length-floatsOf, corners-cons, corners-none, cell-counts, length-cellAt}
 use Rattle.clip.specs.Clips.{Wide}
 use Rattle.indexed.specs.Laws.{points-kept}
 use Rattle.stack.specs.Stacks.{cellsFloats, cellsCounts, cellsSizes, behind, cellsAt, stackOf, Front, Sound, Lies}
@@ -27,24 +27,16 @@ use Rattle.list_lent.specs.Lent.{among, allAmong, total}
 
 -- ---- the counts
 
-counts-of : (d : List Float) (at : ℕ) (ns : List ℕ) → cellCounts (cellAt d at ns) ≡ ns
-unfolding cellAt cellCounts
-counts-of d at [] = refl
-counts-of d at (n ∷ ns) = ap₂ (λ x l. x ∷ l) (length-pointsAt d (at + 12) n) (counts-of d (at + 12 + 3 * n) ns)
-
-faces-of : (d : List Float) (at : ℕ) (ns : List ℕ) → length (cellAt d at ns) ≡ length ns
-faces-of d at ns = sym (length-cellCounts (cellAt d at ns)) ∙ ap length (counts-of d at ns)
-
 cells-counts : (d : List Float) (at : ℕ) (n ms : List ℕ) → cellsCounts (cellsAt d at n ms) ≡ take (total ms) n
 unfolding cellsAt cellsCounts total
 cells-counts d at n [] = refl
-cells-counts d at n (m ∷ ms) = ap₂ (λ a b. a ++ b) (counts-of d at (take m n)) (cells-counts d (behind at (take m n)) (drop m n) ms) ∙ sym (take-add m (total ms) n)
+cells-counts d at n (m ∷ ms) = ap₂ (λ a b. a ++ b) (cell-counts d at (take m n)) (cells-counts d (behind at (take m n)) (drop m n) ms) ∙ sym (take-add m (total ms) n)
 
 cells-sizes : (d : List Float) (at : ℕ) (n ms : List ℕ) → total ms ≤ length n → cellsSizes (cellsAt d at n ms) ≡ ms
 unfolding cellsAt cellsSizes total
 cells-sizes d at n [] h = refl
 cells-sizes d at n (m ∷ ms) h =
-    ap₂ (λ x l. x ∷ l) (faces-of d at (take m n) ∙ length-take-le m n (omega arith)) (cells-sizes d (behind at (take m n)) (drop m n) ms (omega (arith, length-drop m n)))
+    ap₂ (λ x l. x ∷ l) (length-cellAt d at (take m n) ∙ length-take-le m n (omega arith)) (cells-sizes d (behind at (take m n)) (drop m n) ms (omega (arith, length-drop m n)))
 
 -- ---- the corners
 
@@ -96,7 +88,7 @@ unfolding cellsAt cellsFloats
 cells-kept s at n [] = refl
 cells-kept s at n (m ∷ ms) =
     let c = cellAt s at (take m n) in
-    let e : at + length (cellFloats c) ≡ behind at (take m n) = sym (ap (behind at) (sym (counts-of s at (take m n))) ∙ behind-cell c at) in
+    let e : at + length (cellFloats c) ≡ behind at (take m n) = sym (ap (behind at) (sym (cell-counts s at (take m n))) ∙ behind-cell c at) in
     sym (sets-append s at (cellFloats c) (cellsFloats (cellsAt s (behind at (take m n)) (drop m n) ms)))
     ∙ ap₂ (λ l k. sets l k (cellsFloats (cellsAt s (behind at (take m n)) (drop m n) ms))) (cell-kept s at (take m n)) e
     ∙ cells-kept s (behind at (take m n)) (drop m n) ms
@@ -126,7 +118,7 @@ cells-sound d at n (m ∷ ms) h e g =
     let u = both-among 3 128 (take m n) (take (total ms) (drop m n)) (ap (allAmong 3 128) (sym (take-add m (total ms) n)) ∙ g) in
     let b = cell-bounds d at (take m n) (u .0) in
     let p = and-true (leb 1 m && leb m 128) (allAmong 1 128 ms) e .0 in (
-      record { some = omega (arith, faces-of d at (take m n), length-take-le m n (omega arith), leb-true 1 m (and-true (leb 1 m) (leb m 128) p .0)); wide = b .0; small = b .1 },
+      record { some = omega (arith, length-cellAt d at (take m n), length-take-le m n (omega arith), leb-true 1 m (and-true (leb 1 m) (leb m 128) p .0)); wide = b .0; small = b .1 },
       cells-sound d (behind at (take m n)) (drop m n) ms (omega (arith, length-drop m n)) (and-true (leb 1 m && leb m 128) (allAmong 1 128 ms) e .1) (u .1),
     )
 

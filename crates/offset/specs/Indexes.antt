@@ -15,9 +15,8 @@ use Rattle.space.specs.declared.Point3.{Point3}
 use Rattle.space.specs.declared.Precision.{Precision}
 use Rattle.space.specs.Shapes.{Cell, Solid, corners}
 use Rattle.polygon.specs.Memory.{floatsOf, pointsAt}
-use Rattle.polygon.specs.MemoryLaws.{length-pointsAt}
 use Rattle.room.specs.Rooms.{cellCounts, cellAt, countsAt}
-use Rattle.room.specs.Laws.{corners-cons, corners-none, points-stored}
+use Rattle.room.specs.Laws.{corners-cons, corners-none, points-stored, cell-counts}
 use Rattle.indexed.specs.declared.Counted.{Counted}
 use Rattle.indexed.specs.declared.Counted.the-variants as C
 use Rattle.indexed.specs.Indexed.{Search, placeIn, Places, joined, placed, indexPoint, indexPoints, withFace, indexFace, indexed}
@@ -101,11 +100,6 @@ pub corners-same : (a b : Cell) → cellCounts a ≡ cellCounts b → corners 0 
 corners-same a b e = sym (cell-total a) ∙ ap total e ∙ cell-total b
 
 -- ---- the cell in its room
-
-pub cell-counts : (s : List Float) (at : ℕ) (ns : List ℕ) → cellCounts (cellAt s at ns) ≡ ns
-unfolding cellAt cellCounts
-cell-counts s at [] = refl
-cell-counts s at (n ∷ ns) = ap (λ x. x ∷ cellCounts (cellAt s (at + 12 + 3 * n) ns)) (length-pointsAt s (at + 12) n) ∙ ap (λ l. n ∷ l) (cell-counts s (at + 12 + 3 * n) ns)
 
 placing-total : (ns : List ℕ) (k m : ℕ) → k + total ns ≤ m → Placing ns k m
 unfolding Placing

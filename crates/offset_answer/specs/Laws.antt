@@ -18,7 +18,7 @@ use Rattle.space.specs.Shapes.{Cell, Solid, corners}
 use Rattle.polygon.specs.Memory.{floatsOf, pointsAt}
 use Rattle.polygon.specs.MemoryLaws.{length-pointsAt}
 use Rattle.room.specs.Rooms.{cellCounts, cellAt, countsAt}
-use Rattle.room.specs.Laws.{corners-cons, corners-none}
+use Rattle.room.specs.Laws.{corners-cons, corners-none, cell-counts}
 use Rattle.indexed.specs.declared.Counted.{Counted}
 use Rattle.indexed.specs.declared.Counted.the-variants as C
 use Rattle.indexed.specs.Indexed.{indexed}
@@ -28,7 +28,7 @@ use Rattle.solids.specs.Frames.{facesAt, Placing}
 use Rattle.offset.specs.Offsets.{offsetCell}
 use Rattle.offset.specs.Stored.{CellMoved, Ready}
 use Rattle.offset.specs.Theorem.{offset-counts}
-use Rattle.offset.specs.Indexes.{corners-same, cell-counts, placing-fits, stored-made, stored-not, indexed-few, indexed-counts, indexed-points, indexed-faces}
+use Rattle.offset.specs.Indexes.{corners-same, placing-fits, stored-made, stored-not, indexed-few, indexed-counts, indexed-points, indexed-faces}
 use Rattle.offset.specs.Whole.{cell-size, cell-not, cell-made, cell-is, cell-lies}
 use Rattle.solid_check.specs.Check.{check}
 use Rattle.built.specs.Built.{built, Bench}

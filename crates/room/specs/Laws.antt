@@ -7,7 +7,7 @@ use native.Mathlib.Omega.{arith}
 use native.Mathlib.Nat.{not-suc-le-zero, le-of-suc-le-suc, add-zero, mod-lt}
 use native.Mathlib.Numerals.{add-one, add-three}
 use lib.ListN.{length, take, drop, getD, set, replicate, length-append, length-drop, length-take, drop-of-length-le}
-use lib.Seq.{sets, sets-eq, drop-cons, getD-append-add, getD-drop, getD-set-other}
+use lib.Seq.{sets, sets-eq, drop-cons, getD-append-add, getD-drop, getD-set-other, length-take-le}
 use lib.Ieee.{Float, nan}
 use Rattle.space.specs.declared.Point3.{Point3}
 use Rattle.space.specs.declared.Frame.{Frame}
@@ -93,6 +93,21 @@ unfolding cellCounts
 length-cellCounts [] = refl
 length-cellCounts (f ∷ c) = ap suc (length-cellCounts c)
 
+-- the counts of a cell in a slice, and how many faces it has
+pub cell-counts : (s : List Float) (at : ℕ) (ns : List ℕ) → cellCounts (cellAt s at ns) ≡ ns
+unfolding cellAt cellCounts
+cell-counts s at [] = refl
+cell-counts s at (n ∷ ns) = ap (λ x. x ∷ cellCounts (cellAt s (at + 12 + 3 * n) ns)) (length-pointsAt s (at + 12) n) ∙ ap (λ l. n ∷ l) (cell-counts s (at + 12 + 3 * n) ns)
+
+pub length-cellAt : (s : List Float) (at : ℕ) (ns : List ℕ) → length (cellAt s at ns) ≡ length ns
+unfolding cellAt
+length-cellAt s at [] = refl
+length-cellAt s at (n ∷ ns) = ap suc (length-cellAt s (at + 12 + 3 * n) ns)
+
+pub cell-faces : (s : List Float) (at : ℕ) (ns : List ℕ) (j faces : ℕ) → j + faces ≤ length ns → length (cellAt s at (countsAt ns j faces)) ≡ faces
+cell-faces s at ns j faces h =
+    length-cellAt s at (countsAt ns j faces) ∙ length-take-le faces (drop j ns) (omega (arith, length-drop j ns))
+
 -- ---- one more behind the others
 
 floatsOf-snoc : (l : List Point3) (q : Point3) → floatsOf (l ++ (q ∷ [])) ≡ floatsOf l ++ floats q
@@ -104,7 +119,7 @@ unfolding cellFloats
 cellFloats-snoc [] f = append-nil (faceFloats f)
 cellFloats-snoc (g ∷ c) f = ap (λ l. faceFloats g ++ l) (cellFloats-snoc c f) ∙ sym (append-assoc (faceFloats g) (cellFloats c) (faceFloats f))
 
-cellCounts-snoc : (c : Cell) (f : Face) → cellCounts (c ++ (f ∷ [])) ≡ cellCounts c ++ (length (f .points) ∷ [])
+pub cellCounts-snoc : (c : Cell) (f : Face) → cellCounts (c ++ (f ∷ [])) ≡ cellCounts c ++ (length (f .points) ∷ [])
 unfolding cellCounts
 cellCounts-snoc [] f = refl
 cellCounts-snoc (g ∷ c) f = ap (λ l. length (g .points) ∷ l) (cellCounts-snoc c f)
@@ -204,6 +219,12 @@ unfolding All
 all-both p q r [] f a b = tt
 all-both p q r (x ∷ l) f a b = (f x (a .0) (b .0), all-both p q r l f (a .1) (b .1))
 
+pub all-get : {A : Type 0} (p : A → Type 0) (l : List A) (x : ℕ) (d : A) → All p l → x < length l → p (getD l x d)
+unfolding All
+all-get p [] x d a h = absurd (not-suc-le-zero h)
+all-get p (y ∷ l) zero d a h = a .0
+all-get p (y ∷ l) (suc x) d a h = all-get p l x d (a .1) (le-of-suc-le-suc h)
+
 pub all-in : {A : Type 0} (p : A → Type 0) (l : List A) → ((x : A) → In x l → p x) → All p l
 unfolding All In
 all-in p [] f = tt
@@ -242,7 +263,7 @@ points-back a (p ∷ l) b i e =
     let s : (a ++ floats p) ++ (floatsOf l ++ b) ≡ a ++ (floats p ++ (floatsOf l ++ b)) = append-assoc a (floats p) (floatsOf l ++ b) in
     ap (λ q. q ∷ pointsAt (a ++ (floats p ++ (floatsOf l ++ b))) (i + 3) (length l)) h ∙ ap (λ q. p ∷ q) (ap (λ m. pointsAt m (i + 3) (length l)) (sym s) ∙ t)
 
-plane-back : (a : List Float) (w : Plane) (r : List Float) (i : ℕ) → i ≡ length a → planeAt (a ++ (planeFloats w ++ r)) i ≡ w
+pub plane-back : (a : List Float) (w : Plane) (r : List Float) (i : ℕ) → i ≡ length a → planeAt (a ++ (planeFloats w ++ r)) i ≡ w
 plane-back a w r i e =
     let f = w .frame in
     let at : (b : List Float) (p : Point3) (q : List Float) (k : ℕ) → k ≡ length b → b ++ (floats p ++ q) ≡ a ++ (planeFloats w ++ r) → pointAt (a ++ (planeFloats w ++ r)) k ≡ p =

@@ -18,13 +18,12 @@ use Rattle.refusal.specs.Tests.{and-true}
 use Rattle.space.specs.declared.Precision.{Precision}
 use Rattle.space.specs.Shapes.{Cell, corners}
 use Rattle.room.specs.Rooms.{cellAt, countsAt}
-use Rattle.room.specs.Laws.{length-cellCounts}
+use Rattle.room.specs.Laws.{length-cellCounts, cell-counts}
 use Rattle.job.specs.declared.CellLayout.{CellLayout}
 use Rattle.job.specs.declared.CellLaid.{CellLaid}
 use Rattle.job.specs.declared.CellLaid.the-variants as C
 use Rattle.job.specs.Read.{cellLaid, solidAt}
 use Rattle.solids.specs.Faces.{length-face}
-use Rattle.offset.specs.Indexes.{cell-counts}
 use Rattle.hollow.specs.Hollows.{thick}
 use Rattle.solid_check.specs.Check.{check}
 use Rattle.built.specs.Built.{Bench}

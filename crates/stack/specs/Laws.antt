@@ -5,7 +5,7 @@ use mathlib.Core.List.{List, [], _∷_, _++_, append-assoc, append-nil}
 use Prim.Native.Nat.{ℕ, suc, _+_, _*_, _≤_, _<_}
 use native.Mathlib.Omega.{arith}
 use native.Mathlib.Numerals.{add-one}
-use lib.ListN.{length, take, drop, set, getD, length-append, length-drop, length-set}
+use lib.ListN.{length, take, drop, set, getD, length-append, length-set}
 use lib.Seq.{sets, sets-eq, take-at, drop-at, take-suc, length-take-le}
 use lib.Dec.{ltb}
 use lib.Ieee.{Float}
@@ -15,7 +15,7 @@ use Rattle.refusal.specs.Outcome.{Outcome, ok, refused, then, unless, walk, hea
 use Rattle.refusal.specs.Laws.{same-ok, never-ok}
 use Rattle.space.specs.Shapes.{Face, Cell, corners, allCorners}
 use Rattle.polygon.specs.Members.{All}
-use Rattle.room.specs.Rooms.{cellFloats, cellCounts, cellAt, countsAt}
+use Rattle.room.specs.Rooms.{cellFloats, cellCounts, cellAt}
 use Rattle.room.specs.Laws.{sets-append, corners-cons, corners-snoc, corners-none, length-cellFloats, length-cellCounts, cell-back, all-snoc}
 use Rattle.cell.specs.Cells.{isFull, addFace, leftCell}
 use Rattle.clip.specs.Clips.{Wide}
@@ -242,17 +242,6 @@ pub left-whole : (room : ℕ) (c : Cell) → length c ≤ 128 → leftCell room 
 unfolding leftCell
 left-whole room c h =
     left-from room [] c (omega arith) (omega (arith, corners-none)) ∙ ap (λ x. unless (ltb room x) 12 (ok c)) (omega (arith, corners-none))
-
--- ---- the number of faces of a cell in a room
-
-length-cellAt : (s : List Float) (at : ℕ) (ns : List ℕ) → length (cellAt s at ns) ≡ length ns
-unfolding cellAt
-length-cellAt s at [] = refl
-length-cellAt s at (n ∷ ns) = ap suc (length-cellAt s (at + 12 + 3 * n) ns)
-
-pub cell-faces : (s : List Float) (at : ℕ) (ns : List ℕ) (j faces : ℕ) → j + faces ≤ length ns → length (cellAt s at (countsAt ns j faces)) ≡ faces
-cell-faces s at ns j faces h =
-    length-cellAt s at (countsAt ns j faces) ∙ length-take-le faces (drop j ns) (omega (arith, length-drop j ns))
 
 -- ---- a copy from the front
 
