@@ -1,7 +1,7 @@
 -- Laws of the writers of answers, in the words of the code.
 use mathlib.Core.Path.{_≡_, refl, sym, ap, _∙_, subst}
 use mathlib.Core.List.{List, [], _∷_, _++_, append-assoc}
-use Prim.Native.Nat.{ℕ, suc, _+_, _*_, _≤_, _<_}
+use Prim.Native.Nat.{ℕ, _+_, _*_, _≤_, _<_}
 use native.Mathlib.Omega.{arith}
 use native.Mathlib.Numerals.{add-one}
 use lib.ListN.{length, drop, getD, set, length-append}
@@ -18,7 +18,7 @@ use Rattle.room.specs.Rooms.{countsAt, planeAt, faceAt, cellAt, Within}
 use Rattle.room.specs.Laws.{sets-append, next-count, counts-done, cell-next, cell-none, within-rest, within-le, cell-faces}
 use Rattle.job.specs.Written.{pointBytes}
 use Rattle.solids.specs.Frames.{facesAt}
-use Rattle.solids.specs.Faces.{length-face}
+use Rattle.solids.specs.Faces.{length-face, length-facesAt}
 use Rattle.writer.specs.Rows.{row, length-row}
 use Rattle.writer.specs.Laws.{length-point}
 use Rattle.writer.specs.Writing.{solidIn}
@@ -105,11 +105,6 @@ module _ (points : List Float) (m : ℕ) (places counts : List ℕ) (n : ℕ) wh
       then-sets out c d at (at + 8 + 24 * m) ((digits 4 m ++ dots) ++ digits 4 n) faces y s l ∙ ap (sets out at) (sym (solid-parts e))
 
 -- how many faces there are
-length-facesAt : (l : List ℕ) (k : ℕ) (ns : List ℕ) → length (facesAt l k ns) ≡ length ns
-unfolding facesAt
-length-facesAt l k [] = refl
-length-facesAt l k (n ∷ ns) = ap suc (length-facesAt l (k + n) ns)
-
 pub faces-number : (places counts : List ℕ) (n : ℕ) → n ≤ length counts → n ≡ length (facesAt places 0 (countsAt counts 0 n))
 faces-number places counts n h = sym (length-facesAt places 0 (countsAt counts 0 n) ∙ length-face counts 0 n (omega arith))
 

@@ -21,16 +21,11 @@ use Rattle.polygon.specs.Members.{All}
 use Rattle.room.specs.Rooms.{faceAt, cellAt, countsAt}
 use Rattle.room.specs.Laws.{next-point, points-done, all-map}
 use Rattle.cell.specs.Laws.{Ahead, ahead-next, ahead-inside, ahead-face, ahead-done}
-use Rattle.solids.specs.Apart.{firstOf, eachIn}
-use Rattle.solids.specs.Laws.{each-go, each-stop}
+use Rattle.solids.specs.Apart.{eachIn}
+use Rattle.solids.specs.Laws.{each-go, each-stop, first-fine}
 use Rattle.bounds.specs.Bounds.{notAbove, wellBelow, judged, pointIn, pointsIn, against, Lies}
 
 -- ---- what a fine verdict says
-
-first-fine : (v w : Verdict) → firstOf v w ≡ D.Fine → (v ≡ D.Fine) × (w ≡ D.Fine)
-unfolding firstOf
-first-fine D.Fine w e = (refl, e)
-first-fine (D.Refused r) w e = never-fine e
 
 each-fine : {A : Type 0} (f : A → Verdict) (l : List A) → eachIn f l ≡ D.Fine → All (λ x. f x ≡ D.Fine) l
 unfolding eachIn All

@@ -19,20 +19,16 @@ use Rattle.space.specs.Shapes.{Cell, Solid}
 use Rattle.polygon.specs.Memory.{pointsAt}
 use Rattle.polygon.specs.MemoryLaws.{length-pointsAt}
 use Rattle.room.specs.Rooms.{countsAt, cellFloats, cellCounts}
-use Rattle.solids.specs.Apart.{firstOf, eachIn}
+use Rattle.solids.specs.Apart.{eachIn}
 use Rattle.solids.specs.Frames.{pointOf, planeFor, facesAt, framedAll, Placing}
 use Rattle.solids.specs.Faces.{placing-le}
 use Rattle.solids.specs.Order.{fairAll, countedAll, shaped}
+use Rattle.solids.specs.Laws.{first-fine}
 use Rattle.topology.specs.Topology.{sound}
 use Rattle.topology.specs.Sound.{faces-many}
 use Rattle.solid_check.specs.Check.{solidAt, faceOf, cellOf, after, check, stored, kept, framed}
 
 -- ---- what a fine verdict says
-
-first-fine : (v w : Verdict) → firstOf v w ≡ D.Fine → (v ≡ D.Fine) × (w ≡ D.Fine)
-unfolding firstOf
-first-fine D.Fine w e = (refl, e)
-first-fine (D.Refused r) w e = never-fine e
 
 verdict-ok : {A : Type 0} (o : Outcome A) → verdictOf o ≡ D.Fine → (a : A) × (o ≡ ok a)
 unfolding verdictOf

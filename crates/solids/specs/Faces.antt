@@ -70,6 +70,13 @@ three-corners t ps l at n a b c h g x y z =
     ∙ ap (λ k. facePlane t a k (pointOf ps (getD (countsAt l at n) 2 0))) (ap (pointOf ps) q ∙ sym y)
     ∙ ap (λ k. facePlane t a b k) (ap (pointOf ps) r ∙ sym z)
 
+-- ---- how many faces there are
+
+pub length-facesAt : (l : List ℕ) (at : ℕ) (ns : List ℕ) → length (facesAt l at ns) ≡ length ns
+unfolding facesAt
+length-facesAt l at [] = refl
+length-facesAt l at (n ∷ ns) = ap suc (length-facesAt l (at + n) ns)
+
 -- ---- a loop over n faces: j are done, and the corners of the next begin at a place
 
 pub placing-le : (ns : List ℕ) (at m : ℕ) → Placing ns at m → at ≤ m
