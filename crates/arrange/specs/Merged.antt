@@ -5,8 +5,7 @@ use mathlib.Core.List.{List, [], _∷_, _++_, map, append-assoc, append-nil}
 use Prim.Native.Nat.{ℕ, zero, suc, _+_, _≤_, _<_}
 use native.Mathlib.Omega.{arith}
 use native.Mathlib.Nat.{not-suc-le-zero, le-of-suc-le-suc}
-use native.Mathlib.Decide.{decLt}
-use borrow.Author.Tests.{eqb-false, ltb-false}
+use borrow.Author.Tests.{ltb-false}
 use lib.ListN.{length, take, drop, getD, length-append}
 use lib.Seq.{sets, sets-eq, take-append-seam, drop-append-seam, getD-drop}
 use lib.Dec.{eqb, ltb}
@@ -24,8 +23,9 @@ use Rattle.polygon.specs.Members.{All}
 use Rattle.room.specs.Rooms.{cellCounts, countsAt, Small}
 use Rattle.room.specs.Laws.{all-none, all-snoc, all-map, all-get}
 use Rattle.indexed.specs.declared.Pick.the-variants.{Only}
-use Rattle.indexed.specs.Indexed.{met, onlyIn, searchBy, Places, joined, placed, indexPoint, withFace, indexFace, indexFaces}
+use Rattle.indexed.specs.Indexed.{met, onlyIn, searchBy, Places, placed, indexPoint, withFace, indexFace, indexFaces}
 use Rattle.indexed.specs.Stored.{flat}
+use Rattle.indexed.specs.Laws.{joined-low}
 use Rattle.merge.specs.Merge.{merge}
 use Rattle.solids.specs.Frames.{facesAt}
 use Rattle.conform.specs.Cycles.{Among}
@@ -61,13 +61,6 @@ only-low t q l j e = walk-low t q (length l) l 0 (length l) j e (omega arith) (o
 
 -- ---- the corners of a face
 
-apart : (i n : ℕ) → eqb i n ≡ false → i ≤ n → i < n
-apart i n e h = elim (decLt i n) [ yes k ↦ k | no k ↦ absurd (eqb-false i n e (omega arith)) ]
-
-more-below : (l : List Point3) (q : Point3) (b : Bool) (i : ℕ) → eqb i (length l) ≡ b → i ≤ length l → (length l ≤ length (joined l q b)) × (i < length (joined l q b))
-more-below l q true i e h = (let n = length-append l (q ∷ []) in (omega (arith, n), omega (arith, n)))
-more-below l q false i e h = (omega arith, apart i (length l) e h)
-
 point-below : (t : Precision) (s s′ : Places) (q : Point3) → indexPoint (searchBy Only t) s q ≡ ok s′ → Below (length (s .points)) (s .places) →
     (length (s .points) ≤ length (s′ .points)) × Below (length (s′ .points)) (s′ .places) × (length (s′ .places) ≡ length (s .places) + 1)
 unfolding indexPoint
@@ -75,7 +68,7 @@ point-below t s s′ q e a =
     let z = then-ok (searchBy Only t q (s .points)) _ s′ e in
     let i = z .0 in
     let w : placed s q i ≡ s′ = same-ok (z .2) in
-    let m = more-below (s .points) q (eqb i (length (s .points))) i refl (only-low t q (s .points) i (z .1)) in
+    let m = joined-low (s .points) q (eqb i (length (s .points))) i refl (only-low t q (s .points) i (z .1)) in
     subst (λ x. (length (s .points) ≤ length (x .points)) × Below (length (x .points)) (x .places) × (length (x .places) ≡ length (s .places) + 1)) w
     (m .0, all-snoc _ (s .places) i (all-map _ _ (s .places) (λ k h. omega (arith, m .0)) a) (m .1), length-append (s .places) (i ∷ []))
 

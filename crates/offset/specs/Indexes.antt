@@ -1,6 +1,5 @@
 -- Laws of `indexed` that an offset needs: how many points and places there are, and that they are read back from their slices.
 use mathlib.Core.Path.{_≡_, refl, sym, ap, _∙_}
-use mathlib.Core.Bool.{Bool, true, false}
 use mathlib.Core.List.{List, [], _∷_, _++_, append-assoc, append-nil, map}
 use Prim.Native.Nat.{ℕ, _+_, _*_, _≤_}
 use native.Mathlib.Omega.{arith}
@@ -19,15 +18,12 @@ use Rattle.room.specs.Rooms.{cellCounts, cellAt, countsAt}
 use Rattle.room.specs.Laws.{corners-cons, corners-none, points-stored, cell-counts}
 use Rattle.indexed.specs.declared.Counted.{Counted}
 use Rattle.indexed.specs.declared.Counted.the-variants as C
-use Rattle.indexed.specs.Indexed.{Search, placeIn, Places, joined, placed, indexPoint, indexPoints, withFace, indexFace, indexed}
+use Rattle.indexed.specs.Indexed.{Search, placeIn, Places, placed, indexPoint, indexPoints, withFace, indexFace, indexed}
 use Rattle.indexed.specs.Stored.{flat, Stored}
+use Rattle.indexed.specs.Laws.{joined-most}
 use Rattle.solids.specs.Frames.{facesAt, Placing}
 
 -- ---- how many there are
-
-joined-few : (l : List Point3) (q : Point3) (b : Bool) → length (joined l q b) ≤ length l + 1
-joined-few l q true = omega (arith, length-append l (q ∷ []))
-joined-few l q false = omega arith
 
 points-few : (find : Search) (l : List Point3) (a b : Places) → walk (indexPoint find) a l ≡ ok b → (length (b .places) ≡ length (a .places) + length l) × (length (b .points) ≤ length (a .points) + length l)
 unfolding walk indexPoint
@@ -38,7 +34,7 @@ points-few find (q ∷ l) a b e =
     let s = same-ok (g .2) in
     let r = points-few find l (f .0) b (f .2) in
     let u : length (f .0 .places) ≡ length (a .places) + 1 = ap (λ x. length (x .places)) (sym s) ∙ length-append (a .places) (g .0 ∷ []) in
-    let v : length (f .0 .points) ≤ length (a .points) + 1 = omega (arith, ap (λ x. length (x .points)) s, joined-few (a .points) q (eqb (g .0) (length (a .points)))) in
+    let v : length (f .0 .points) ≤ length (a .points) + 1 = omega (arith, ap (λ x. length (x .points)) s, joined-most (a .points) q (eqb (g .0) (length (a .points)))) in
     (omega (arith, r .0, u), omega (arith, r .1, v))
 
 abbrev lengths : List (List ℕ) → List ℕ

@@ -1,7 +1,7 @@
 -- Laws of the call of an offset: its stages one after another, and the size of its answer.
 use mathlib.Core.Path.{_≡_, refl, sym, ap, _∙_, subst}
 use mathlib.Core.Bool.{false}
-use mathlib.Core.List.{List, [], _∷_, _++_, map}
+use mathlib.Core.List.{List, [], _∷_, _++_}
 use Prim.Native.Nat.{ℕ, _+_, _*_, _≤_, _<_}
 use native.Mathlib.Omega.{arith}
 use lib.ListN.{length, length-append}
@@ -17,13 +17,13 @@ use Rattle.space.specs.declared.Precision.{Precision}
 use Rattle.space.specs.Shapes.{Cell, Solid, corners}
 use Rattle.polygon.specs.Memory.{floatsOf, pointsAt}
 use Rattle.polygon.specs.MemoryLaws.{length-pointsAt}
-use Rattle.room.specs.Rooms.{cellCounts, cellAt, countsAt}
-use Rattle.room.specs.Laws.{corners-cons, corners-none, cell-counts}
+use Rattle.room.specs.Rooms.{cellAt, countsAt}
+use Rattle.room.specs.Laws.{cell-counts}
 use Rattle.indexed.specs.declared.Counted.{Counted}
 use Rattle.indexed.specs.declared.Counted.the-variants as C
 use Rattle.indexed.specs.Indexed.{indexed}
 use Rattle.indexed.specs.Stored.{flat, Stored, Fits}
-use Rattle.indexed.specs.Laws.{stored-points, stored-places}
+use Rattle.indexed.specs.Laws.{stored-points, stored-places, flat-corners}
 use Rattle.solids.specs.Frames.{facesAt, Placing}
 use Rattle.offset.specs.Offsets.{offsetCell}
 use Rattle.offset.specs.Stored.{CellMoved, Ready}
@@ -101,16 +101,6 @@ module _ (points : List Float) (m : ℕ) (places counts : List ℕ) (n k limit :
       handed-all (offsetAnswer limit solid) a a′ r (solidAnswer solid) (within h) (omega (arith, f, size-is)) (w ∙ ap answered l) y
 
 -- ---- the cell is built
-
-pub flat-corners : (fs : List (List ℕ)) (c : Cell) → map length fs ≡ cellCounts c → length (flat fs) ≡ corners 0 c
-unfolding flat cellCounts
-flat-corners [] [] e = sym corners-none
-flat-corners [] (f ∷ c) e = absurd (omega (arith, ap length e))
-flat-corners (f ∷ fs) [] e = absurd (omega (arith, ap length e))
-flat-corners (f ∷ fs) (g ∷ c) e =
-    let a : length f ≡ length (g .points) = cc in
-    let b : map length fs ≡ cellCounts c = cc in
-    omega (arith, length-append f (flat fs), flat-corners fs c b, a, corners-cons g c)
 
 -- a built solid is the indexed one
 pub built-indexed : (t : Precision) (c : Cell) (s : Solid) → built t c ≡ ok s → (indexed t c ≡ ok s) × ((b : Cell) × (check false t s ≡ ok b))

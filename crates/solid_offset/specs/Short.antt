@@ -14,6 +14,7 @@ use Rattle.space.specs.Shapes.{Cell, Solid, corners}
 use Rattle.room.specs.Rooms.{cellCounts}
 use Rattle.room.specs.Laws.{length-cellCounts}
 use Rattle.indexed.specs.Stored.{flat}
+use Rattle.indexed.specs.Laws.{flat-corners}
 use Rattle.words.specs.Little.{digits}
 use Rattle.offset.specs.Offsets.{offsetCell}
 use Rattle.offset.specs.Indexes.{corners-same, indexed-few, indexed-counts}
@@ -27,7 +28,7 @@ use Rattle.answer.specs.Laws.{length-count}
 use Rattle.ended.specs.declared.Ended.{Ended}
 use Rattle.ended.specs.Ends.{fitted, Handed}
 use Rattle.offset_answer.specs.Calls.{offsetAnswer, builtAnswer, offsetCall}
-use Rattle.offset_answer.specs.Laws.{solid-size, flat-corners, built-indexed}
+use Rattle.offset_answer.specs.Laws.{solid-size, built-indexed}
 use Rattle.hollow_answer.specs.Calls.{builtCell, hollowAnswer, answerOf, wallCall, shellCall, hollowCall}
 use Rattle.hollow_answer.specs.Laws.{shell-size, hollow-parts, reversed-counts}
 
