@@ -20,7 +20,7 @@ use Rattle.room.specs.Laws.{sets-append, next-count, counts-done, length-floats
 use Rattle.sums.specs.Sum.{sum}
 use Rattle.stack.specs.declared.Stack.{Stack}
 use Rattle.stack.specs.Stacks.{cellsFloats, cellsCounts, cellsSizes, cellsAt, stackOf, listAt, Lies, Holds, Front}
-use Rattle.stack.specs.Laws.{Numbers, numbers, counts-snoc}
+use Rattle.stack.specs.Laws.{Numbers, numbers, counts-snoc, all-corners-cons, sizes-snoc}
 use Rattle.stack.specs.Steps.{Standing, standing}
 use Rattle.indexed.specs.declared.Counted.{Counted}
 use Rattle.indexed.specs.declared.Counted.the-variants as C
@@ -29,7 +29,7 @@ use Rattle.indexed.specs.Stored.{flat, Stored, Fits}
 use Rattle.built.specs.Built.{built, Bench}
 use Rattle.built.specs.Laws.{built-lengths}
 use Rattle.finish.specs.Finish.{finish, total, solidsFloats, solidsPlaces, solidsCounts, solidsSizes, solidsMarks, solidsAt, solidsTold, Lain, Finished, Holding, Shelf, Space, Behind}
-use Rattle.finish.specs.Lists.{total-cell, total-flat, floats-both, counts-both, sizes-both, corners-both, one-floats, one-counts, one-corners, here-size, here-seat, here-listed, here-counts, here-cell, here-room, here-within, here-corners, here-wide, none, sizes-one, points-more, places-more, faces-more, numbers-more, marks-more, length-marks, solids-stored}
+use Rattle.finish.specs.Lists.{total-cell, total-flat, floats-both, counts-both, sizes-both, corners-both, one-floats, one-counts, here-size, here-seat, here-listed, here-counts, here-cell, here-room, here-within, here-corners, here-wide, none, points-more, places-more, faces-more, numbers-more, marks-more, length-marks, solids-stored}
 
 -- ---- how many corners n faces have: c so far, of j faces
 
@@ -358,9 +358,9 @@ module _ {t : Precision} {cs : List Cell} {s₀ : List Float} {i₀ m₀ : List 
           upto = length-append (I .done) (A .cell ∷ []) ∙ ap (λ l. l + 1) (I .upto);
           floats = omega (arith, ap length (floats-both (I .done) (A .cell ∷ [])), length-append (cellsFloats (I .done)) (cellsFloats (A .cell ∷ [])), ap length (one-floats (A .cell) []), length-append (cellFloats (A .cell)) (cellsFloats []), length-cellFloats (A .cell), I .floats, u, n, none .0);
           faces = omega (arith, ap length (counts-both (I .done) (A .cell ∷ [])), length-append (cellsCounts (I .done)) (cellsCounts (A .cell ∷ [])), ap length (one-counts (A .cell) []), length-append (cellCounts (A .cell)) (cellsCounts []), length-cellCounts (A .cell), I .faces, n, none .1);
-          held = omega (arith, corners-both (I .done) (A .cell ∷ []), one-corners (A .cell) [], I .held, u, none .2);
+          held = omega (arith, corners-both (I .done) (A .cell ∷ []), all-corners-cons (A .cell) [], I .held, u, none .2);
           counts = faces-more (I .solids) b ∙ ap₂ (λ v y. v ++ y) (I .counts) fs ∙ sym (counts-snoc (I .done) (A .cell));
-          sizes = numbers-more (I .solids) b ∙ ap₂ (λ v y. v ++ (y ∷ [])) (I .sizes) nc ∙ sym (sizes-one (I .done) (A .cell));
+          sizes = numbers-more (I .solids) b ∙ ap₂ (λ v y. v ++ (y ∷ [])) (I .sizes) nc ∙ sym (sizes-snoc (I .done) (A .cell));
           many = length-append (I .solids) (b ∷ []) ∙ ap (λ v. v + 1) (I .many) ∙ sym (length-append (I .done) (A .cell ∷ []));
           left = sym (each-go (built t) (I .solids) (A .cell) (A .after) b gone) ∙ ap (each (built t) (I .solids)) (sym (A .first)) ∙ I .left;
           points = more s₀ s s′ (solidsFloats (I .solids)) (floatsOf (b .points)) _ p (I .points) (I .dots) (x .3) (points-more (I .solids) b);

@@ -21,8 +21,8 @@ use Rattle.indexed.specs.Stored.{flat}
 use Rattle.merge.specs.Merge.{merge}
 use Rattle.arrange.specs.Arrange.{conformAll, arrange}
 use Rattle.stack.specs.declared.Stack.{Stack}
-use Rattle.stack.specs.Stacks.{cellsAt, stackOf, listAt, Sound, Holds}
-use Rattle.stack.specs.Laws.{numbers}
+use Rattle.stack.specs.Stacks.{stackOf, listAt, Sound, Holds}
+use Rattle.stack.specs.Laws.{numbers, list-heard}
 use Rattle.keys.specs.Rows.{Starts, row, rows, row-at}
 use Rattle.groups.specs.Groups.{bounds, Grouped, length-bounds}
 use Rattle.fusing.specs.Groups.{grouped-starts, grouped-rows}
@@ -163,10 +163,6 @@ points-corners t room cs a e =
     omega (arith, merge-most t (facesOf cs) (u .0) (u .1), ap length g, ap length h)
 
 module _ {room : ℕ} {k : Stack} {d : List Float} {n z : List ℕ} (H : Holds room k d n z) where
-  heard-list : k .verdict ≡ Fine → listAt k d n z ≡ ok (cellsAt d 0 n (take (k .cells) z))
-  unfolding listAt heard
-  heard-list v = ap (λ x. heard x (cellsAt d 0 n (take (k .cells) z))) v
-
   list-fine : (cs : List Cell) → listAt k d n z ≡ ok cs → k .verdict ≡ Fine
   unfolding stackOf
   list-fine cs e = ap (λ x. x .verdict) (H .is ∙ ap stackOf e)
@@ -179,7 +175,7 @@ module _ {room : ℕ} {k : Stack} {d : List Float} {n z : List ℕ} (H : Holds r
   pub list-faces : (cs : List Cell) → listAt k d n z ≡ ok cs → Facing room (k .faces) d n × (cellAt d 0 (countsAt n 0 (k .faces)) ≡ facesOf cs)
   list-faces cs e =
       let S′ = list-stands H (list-fine cs e) in
-      (faces-facing S′, faces-read S′ ∙ ap facesOf (same-ok (sym (heard-list (list-fine cs e)) ∙ e)))
+      (faces-facing S′, faces-read S′ ∙ ap facesOf (same-ok (sym (list-heard k d n z (list-fine cs e)) ∙ e)))
 
   pub list-corners : (cs : List Cell) → listAt k d n z ≡ ok cs → corners 0 (facesOf cs) ≤ room
   list-corners cs e = let q = list-faces cs e in omega (arith, q .0 .fit, ap (corners 0) (q .1))

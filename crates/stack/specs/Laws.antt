@@ -11,6 +11,7 @@ use lib.Dec.{ltb}
 use lib.Ieee.{Float}
 use borrow.Author.Tests.{ltb-true, ltb-false, lt-ltb, le-ltb, lt-leb}
 use Rattle.refusal.specs.declared.Refusal.{Refusal}
+use Rattle.refusal.specs.declared.Verdict.the-variants.{Fine}
 use Rattle.refusal.specs.Outcome.{Outcome, ok, refused, then, unless, walk, heard}
 use Rattle.refusal.specs.Laws.{same-ok, never-ok}
 use Rattle.space.specs.Shapes.{Face, Cell, corners, allCorners}
@@ -29,7 +30,7 @@ unfolding allCorners
 all-corners-from n [] = omega arith
 all-corners-from n (c ∷ cs) = omega (arith, all-corners-from (n + corners 0 c) cs, all-corners-from (0 + corners 0 c) cs)
 
-all-corners-cons : (c : Cell) (cs : List Cell) → allCorners 0 (c ∷ cs) ≡ corners 0 c + allCorners 0 cs
+pub all-corners-cons : (c : Cell) (cs : List Cell) → allCorners 0 (c ∷ cs) ≡ corners 0 c + allCorners 0 cs
 unfolding allCorners
 all-corners-cons c cs = all-corners-from (0 + corners 0 c) cs ∙ omega arith
 
@@ -109,6 +110,11 @@ cells-stored room cs d n z l =
     ∙ ap (cellsAt (cellsFloats cs ++ l .floats .tail) 0 (cellsCounts cs ++ l .counts .tail)) (ap (take (length cs)) (l .sizes .is) ∙ take-at (cellsSizes cs) (l .sizes .tail) (length cs) (length-cellsSizes cs))
     ∙ cells-back [] cs (l .floats .tail) 0 (l .counts .tail) refl
 
+-- where the verdict is fine the list is what is read
+pub list-heard : (s : Stack) (d : List Float) (n z : List ℕ) → s .verdict ≡ Fine → listAt s d n z ≡ ok (cellsAt d 0 n (take (s .cells) z))
+unfolding listAt heard
+list-heard s d n z v = ap (λ x. heard x (cellsAt d 0 n (take (s .cells) z))) v
+
 -- the slices hold the list that the stack tells
 pub listed-is : (room : ℕ) (o : Outcome (List Cell)) (s : Stack) (d : List Float) (n z : List ℕ) → Listed room o s d n z → listAt s d n z ≡ o
 unfolding listAt heard stackOf
@@ -167,7 +173,7 @@ unfolding cellsCounts
 counts-snoc [] c = append-nil (cellCounts c)
 counts-snoc (b ∷ cs) c = ap (λ l. cellCounts b ++ l) (counts-snoc cs c) ∙ sym (append-assoc (cellCounts b) (cellsCounts cs) (cellCounts c))
 
-sizes-snoc : (cs : List Cell) (c : Cell) → cellsSizes (cs ++ (c ∷ [])) ≡ cellsSizes cs ++ (length c ∷ [])
+pub sizes-snoc : (cs : List Cell) (c : Cell) → cellsSizes (cs ++ (c ∷ [])) ≡ cellsSizes cs ++ (length c ∷ [])
 unfolding cellsSizes
 sizes-snoc [] c = refl
 sizes-snoc (b ∷ cs) c = ap (λ l. length b ∷ l) (sizes-snoc cs c)
