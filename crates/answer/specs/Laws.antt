@@ -16,11 +16,10 @@ use Rattle.polygon.specs.Memory.{pointAt, pointsAt}
 use Rattle.polygon.specs.MemoryLaws.{length-pointsAt}
 use Rattle.room.specs.Rooms.{countsAt, planeAt, faceAt, cellAt, Within}
 use Rattle.room.specs.Laws.{sets-append, next-count, counts-done, cell-next, cell-none, within-rest, within-le, cell-faces}
-use Rattle.job.specs.Written.{pointBytes}
+use Rattle.job.specs.Written.{pointBytes, length-point}
 use Rattle.solids.specs.Frames.{facesAt}
 use Rattle.solids.specs.Faces.{length-face, length-facesAt}
 use Rattle.writer.specs.Rows.{row, length-row}
-use Rattle.writer.specs.Laws.{length-point}
 use Rattle.writer.specs.Writing.{solidIn}
 use Rattle.answer.specs.Answers.{faceAnswer, solidAnswer, planeBytes, facetAnswer, shellAnswer}
 

@@ -14,13 +14,12 @@ use Rattle.space.specs.Shapes.{Solid}
 use Rattle.polygon.specs.Memory.{floatsOf}
 use Rattle.room.specs.Rooms.{countsAt}
 use Rattle.room.specs.Laws.{sets-append, length-floatsOf}
-use Rattle.job.specs.Written.{pointBytes}
+use Rattle.job.specs.Written.{pointBytes, length-point}
 use Rattle.words.specs.Little.{digits}
 use Rattle.indexed.specs.Stored.{flat}
 use Rattle.sums.specs.Sum.{sum}
 use Rattle.solids.specs.Frames.{Placing}
 use Rattle.writer.specs.Rows.{row, length-row}
-use Rattle.writer.specs.Laws.{length-point}
 use Rattle.writer.specs.Writing.{solidIn, Lent}
 use Rattle.answer.specs.Answers.{faceAnswer, solidAnswer}
 use Rattle.answer.specs.Laws.{length-count, length-faceAnswer}

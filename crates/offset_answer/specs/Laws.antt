@@ -33,9 +33,8 @@ use Rattle.offset.specs.Whole.{cell-size, cell-not, cell-made, cell-is, cell-li
 use Rattle.solid_check.specs.Check.{check}
 use Rattle.built.specs.Built.{built, Bench}
 use Rattle.words.specs.Little.{digits}
-use Rattle.job.specs.Written.{pointBytes}
+use Rattle.job.specs.Written.{pointBytes, length-point}
 use Rattle.writer.specs.Rows.{row, length-row}
-use Rattle.writer.specs.Laws.{length-point}
 use Rattle.writer.specs.Writing.{solidIn, Lent}
 use Rattle.answer.specs.Answers.{faceAnswer, solidAnswer}
 use Rattle.answer.specs.Laws.{length-count, length-faceAnswer, faces-number}

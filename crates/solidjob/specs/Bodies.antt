@@ -8,9 +8,8 @@ use lib.Seq.{drop-at}
 use Rattle.space.specs.declared.Plane.{Plane}
 use Rattle.space.specs.Shapes.{Face}
 use Rattle.words.specs.Little.{digits}
-use Rattle.job.specs.Written.{pointBytes}
+use Rattle.job.specs.Written.{pointBytes, length-point}
 use Rattle.writer.specs.Rows.{row}
-use Rattle.writer.specs.Laws.{length-point}
 use Rattle.answer.specs.Answers.{planeBytes, facetAnswer, shellAnswer}
 use Rattle.answer.specs.Laws.{length-count, length-facet}
 use Rattle.fused_bytes.specs.Bytes.{shellsAnswer, bodyAnswer, fusedAnswer}
