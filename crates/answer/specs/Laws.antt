@@ -19,6 +19,7 @@ use Rattle.room.specs.Laws.{sets-append, next-count, counts-done, cell-next, ce
 use Rattle.job.specs.Written.{pointBytes, length-point}
 use Rattle.solids.specs.Frames.{facesAt}
 use Rattle.solids.specs.Faces.{length-face, length-facesAt}
+use Rattle.indexed.specs.Stored.{flat}
 use Rattle.writer.specs.Rows.{row, length-row}
 use Rattle.writer.specs.Writing.{solidIn}
 use Rattle.answer.specs.Answers.{faceAnswer, solidAnswer, planeBytes, facetAnswer, shellAnswer}
@@ -107,9 +108,32 @@ module _ (points : List Float) (m : ℕ) (places counts : List ℕ) (n : ℕ) wh
 pub faces-number : (places counts : List ℕ) (n : ℕ) → n ≤ length counts → n ≡ length (facesAt places 0 (countsAt counts 0 n))
 faces-number places counts n h = sym (length-facesAt places 0 (countsAt counts 0 n) ∙ length-face counts 0 n (omega arith))
 
+-- ---- how many bytes a solid has
+
+faces-size : (fs : List (List ℕ)) → length (row faceAnswer fs) ≡ 4 * length fs + 4 * length (flat fs)
+unfolding row flat
+faces-size [] = refl
+faces-size (f ∷ fs) = omega (arith, length-append (faceAnswer f) (row faceAnswer fs), length-faceAnswer f, faces-size fs, length-append f (flat fs))
+
+pub solid-size : (s : Solid) → length (solidAnswer s) ≡ 8 + 24 * length (s .points) + 4 * length (s .faces) + 4 * length (flat (s .faces))
+unfolding solidAnswer
+solid-size s =
+    let a = row pointBytes (s .points) in
+    let b = row faceAnswer (s .faces) in
+    omega (
+      arith,
+      length-append (digits 4 (length (s .points))) (a ++ (digits 4 (length (s .faces)) ++ b)),
+      length-append a (digits 4 (length (s .faces)) ++ b),
+      length-append (digits 4 (length (s .faces))) b,
+      length-count (length (s .points)),
+      length-count (length (s .faces)),
+      length-row pointBytes 24 length-point (s .points),
+      faces-size (s .faces),
+    )
+
 -- ---- facets in a room
 
-length-plane : (w : Plane) → length (planeBytes w) ≡ 96
+pub length-plane : (w : Plane) → length (planeBytes w) ≡ 96
 unfolding planeBytes
 length-plane w =
     let f = w .frame in

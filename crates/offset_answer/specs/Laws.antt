@@ -1,10 +1,10 @@
 -- Laws of the call of an offset: its stages one after another, and the size of its answer.
 use mathlib.Core.Path.{_≡_, refl, sym, ap, _∙_, subst}
 use mathlib.Core.Bool.{false}
-use mathlib.Core.List.{List, [], _∷_, _++_}
+use mathlib.Core.List.{List}
 use Prim.Native.Nat.{ℕ, _+_, _*_, _≤_, _<_}
 use native.Mathlib.Omega.{arith}
-use lib.ListN.{length, length-append}
+use lib.ListN.{length}
 use lib.Seq.{sets, length-sets}
 use lib.Ieee.{Float}
 use borrow.Author.Tests.{lt-ltb, le-ltb}
@@ -32,39 +32,13 @@ use Rattle.offset.specs.Indexes.{corners-same, placing-fits, stored-made, store
 use Rattle.offset.specs.Whole.{cell-size, cell-not, cell-made, cell-is, cell-lies}
 use Rattle.solid_check.specs.Check.{check}
 use Rattle.built.specs.Built.{built, Bench}
-use Rattle.words.specs.Little.{digits}
-use Rattle.job.specs.Written.{pointBytes, length-point}
-use Rattle.writer.specs.Rows.{row, length-row}
 use Rattle.writer.specs.Writing.{solidIn, Lent}
-use Rattle.answer.specs.Answers.{faceAnswer, solidAnswer}
-use Rattle.answer.specs.Laws.{length-count, length-faceAnswer, faces-number}
+use Rattle.answer.specs.Answers.{solidAnswer}
+use Rattle.answer.specs.Laws.{faces-number, solid-size}
 use Rattle.ended.specs.declared.Ended.{Ended}
 use Rattle.ended.specs.Ends.{fitted, answered, stopped, Handed}
 use Rattle.ended.specs.Laws.{handed-not, handed-full, handed-all}
 use Rattle.offset_answer.specs.Calls.{offsetAnswer, builtAnswer, offsetCall}
-
--- ---- how many bytes a solid has
-
-faces-size : (fs : List (List ℕ)) → length (row faceAnswer fs) ≡ 4 * length fs + 4 * length (flat fs)
-unfolding row flat
-faces-size [] = refl
-faces-size (f ∷ fs) = omega (arith, length-append (faceAnswer f) (row faceAnswer fs), length-faceAnswer f, faces-size fs, length-append f (flat fs))
-
-pub solid-size : (s : Solid) → length (solidAnswer s) ≡ 8 + 24 * length (s .points) + 4 * length (s .faces) + 4 * length (flat (s .faces))
-unfolding solidAnswer
-solid-size s =
-    let a = row pointBytes (s .points) in
-    let b = row faceAnswer (s .faces) in
-    omega (
-      arith,
-      length-append (digits 4 (length (s .points))) (a ++ (digits 4 (length (s .faces)) ++ b)),
-      length-append a (digits 4 (length (s .faces)) ++ b),
-      length-append (digits 4 (length (s .faces))) b,
-      length-count (length (s .points)),
-      length-count (length (s .faces)),
-      length-row pointBytes 24 length-point (s .points),
-      faces-size (s .faces),
-    )
 
 -- ---- the answer of a built solid
 

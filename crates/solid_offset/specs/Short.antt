@@ -24,11 +24,11 @@ use Rattle.solid_check.specs.Check.{cellOf}
 use Rattle.solid_check.specs.Laws.{check-passed, check-counted}
 use Rattle.built.specs.Built.{built}
 use Rattle.answer.specs.Answers.{solidAnswer, shellAnswer}
-use Rattle.answer.specs.Laws.{length-count}
+use Rattle.answer.specs.Laws.{length-count, solid-size}
 use Rattle.ended.specs.declared.Ended.{Ended}
 use Rattle.ended.specs.Ends.{fitted, Handed}
 use Rattle.offset_answer.specs.Calls.{offsetAnswer, builtAnswer, offsetCall}
-use Rattle.offset_answer.specs.Laws.{solid-size, built-indexed}
+use Rattle.offset_answer.specs.Laws.{built-indexed}
 use Rattle.hollow_answer.specs.Calls.{builtCell, hollowAnswer, answerOf, wallCall, shellCall, hollowCall}
 use Rattle.hollow_answer.specs.Laws.{shell-size, hollow-parts, reversed-counts}
 
