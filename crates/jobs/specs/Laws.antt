@@ -115,12 +115,12 @@ same-refused : {p q : Refusal} → D.Refused p ≡ D.Refused q → p ≡ q
 unfolding reason
 same-refused {p} h = ap (reason p) h
 
-taken-fine : (o : Outcome Cell) (r : Taken) → r ≡ takenOf o → r .verdict ≡ D.Fine → (c : Cell) × (o ≡ ok c) × (r .faces ≡ length c)
+pub taken-fine : (o : Outcome Cell) (r : Taken) → r ≡ takenOf o → r .verdict ≡ D.Fine → (c : Cell) × (o ≡ ok c) × (r .faces ≡ length c)
 unfolding takenOf
 taken-fine (ok c) r e v = (c, refl, ap (λ x. x .faces) e)
 taken-fine (refused q) r e v = never-fine (sym (ap (λ x. x .verdict) e) ∙ v)
 
-taken-not : (o : Outcome Cell) (r : Taken) (q : Refusal) → r ≡ takenOf o → r .verdict ≡ D.Refused q → o ≡ refused q
+pub taken-not : (o : Outcome Cell) (r : Taken) (q : Refusal) → r ≡ takenOf o → r .verdict ≡ D.Refused q → o ≡ refused q
 unfolding takenOf
 taken-not (ok c) r q e v = never-fine (sym v ∙ ap (λ x. x .verdict) e)
 taken-not (refused p) r q e v = ap refused (same-refused (sym (ap (λ x. x .verdict) e) ∙ v))
