@@ -1,7 +1,7 @@
 -- Laws of the writers of answers, in the words of the code.
 use mathlib.Core.Path.{_≡_, refl, sym, ap, _∙_, subst}
 use mathlib.Core.List.{List, [], _∷_, _++_, append-assoc}
-use Prim.Native.Nat.{ℕ, suc, _+_, _*_, _≤_, _<_}
+use Prim.Native.Nat.{ℕ, _+_, _*_, _≤_, _<_}
 use native.Mathlib.Omega.{arith}
 use native.Mathlib.Numerals.{add-one}
 use lib.ListN.{length, drop, getD, set, length-append}
@@ -13,13 +13,14 @@ use Rattle.space.specs.Shapes.{Face, Cell, Solid}
 use Rattle.words.specs.Little.{digits, floatBytes}
 use Rattle.words.specs.Laws.{length-digits, length-float}
 use Rattle.polygon.specs.Memory.{pointAt, pointsAt}
+use Rattle.polygon.specs.MemoryLaws.{length-pointsAt}
 use Rattle.room.specs.Rooms.{countsAt, planeAt, faceAt, cellAt, Within}
-use Rattle.room.specs.Laws.{sets-append, length-pointsAt, next-count, counts-done, cell-next, cell-none, within-rest, within-le}
-use Rattle.job.specs.Written.{pointBytes}
+use Rattle.room.specs.Laws.{sets-append, next-count, counts-done, cell-next, cell-none, within-rest, within-le, cell-faces}
+use Rattle.job.specs.Written.{pointBytes, length-point}
 use Rattle.solids.specs.Frames.{facesAt}
-use Rattle.solids.specs.Faces.{length-face}
+use Rattle.solids.specs.Faces.{length-face, length-facesAt}
+use Rattle.indexed.specs.Stored.{flat}
 use Rattle.writer.specs.Rows.{row, length-row}
-use Rattle.writer.specs.Laws.{length-point}
 use Rattle.writer.specs.Writing.{solidIn}
 use Rattle.answer.specs.Answers.{faceAnswer, solidAnswer, planeBytes, facetAnswer, shellAnswer}
 
@@ -104,17 +105,35 @@ module _ (points : List Float) (m : ℕ) (places counts : List ℕ) (n : ℕ) wh
       then-sets out c d at (at + 8 + 24 * m) ((digits 4 m ++ dots) ++ digits 4 n) faces y s l ∙ ap (sets out at) (sym (solid-parts e))
 
 -- how many faces there are
-length-facesAt : (l : List ℕ) (k : ℕ) (ns : List ℕ) → length (facesAt l k ns) ≡ length ns
-unfolding facesAt
-length-facesAt l k [] = refl
-length-facesAt l k (n ∷ ns) = ap suc (length-facesAt l (k + n) ns)
-
 pub faces-number : (places counts : List ℕ) (n : ℕ) → n ≤ length counts → n ≡ length (facesAt places 0 (countsAt counts 0 n))
 faces-number places counts n h = sym (length-facesAt places 0 (countsAt counts 0 n) ∙ length-face counts 0 n (omega arith))
 
+-- ---- how many bytes a solid has
+
+faces-size : (fs : List (List ℕ)) → length (row faceAnswer fs) ≡ 4 * length fs + 4 * length (flat fs)
+unfolding row flat
+faces-size [] = refl
+faces-size (f ∷ fs) = omega (arith, length-append (faceAnswer f) (row faceAnswer fs), length-faceAnswer f, faces-size fs, length-append f (flat fs))
+
+pub solid-size : (s : Solid) → length (solidAnswer s) ≡ 8 + 24 * length (s .points) + 4 * length (s .faces) + 4 * length (flat (s .faces))
+unfolding solidAnswer
+solid-size s =
+    let a = row pointBytes (s .points) in
+    let b = row faceAnswer (s .faces) in
+    omega (
+      arith,
+      length-append (digits 4 (length (s .points))) (a ++ (digits 4 (length (s .faces)) ++ b)),
+      length-append a (digits 4 (length (s .faces)) ++ b),
+      length-append (digits 4 (length (s .faces))) b,
+      length-count (length (s .points)),
+      length-count (length (s .faces)),
+      length-row pointBytes 24 length-point (s .points),
+      faces-size (s .faces),
+    )
+
 -- ---- facets in a room
 
-length-plane : (w : Plane) → length (planeBytes w) ≡ 96
+pub length-plane : (w : Plane) → length (planeBytes w) ≡ 96
 unfolding planeBytes
 length-plane w =
     let f = w .frame in
@@ -231,17 +250,12 @@ facets-end {s} {from} {sizes} {j} {faces} {out₀} {at} {out} {o} {p} {i} v h =
 
 -- ---- a shell
 
-length-cell : (s : List Float) (from : ℕ) (ns : List ℕ) → length (cellAt s from ns) ≡ length ns
-unfolding cellAt
-length-cell s from [] = refl
-length-cell s from (n ∷ ns) = ap suc (length-cell s (from + 12 + 3 * n) ns)
-
 module _ (sense : ℕ) (s : List Float) (from : ℕ) (sizes : List ℕ) (j faces : ℕ) (few : j + faces ≤ length sizes) where
   abbrev facets : List ℕ
   facets = row facetAnswer (cellAt s from (countsAt sizes j faces))
 
   number : length (cellAt s from (countsAt sizes j faces)) ≡ faces
-  number = length-cell s from (countsAt sizes j faces) ∙ length-face sizes j faces few
+  number = cell-faces s from sizes j faces few
 
   shell-parts : shellAnswer sense (cellAt s from (countsAt sizes j faces)) ≡ (sense ∷ digits 4 faces) ++ facets
   unfolding shellAnswer

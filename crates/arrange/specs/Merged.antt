@@ -5,13 +5,13 @@ use mathlib.Core.List.{List, [], _∷_, _++_, map, append-assoc, append-nil}
 use Prim.Native.Nat.{ℕ, zero, suc, _+_, _≤_, _<_}
 use native.Mathlib.Omega.{arith}
 use native.Mathlib.Nat.{not-suc-le-zero, le-of-suc-le-suc}
-use native.Mathlib.Decide.{decLt}
-use borrow.Author.Tests.{eqb-false, ltb-false}
+use borrow.Author.Tests.{ltb-false}
 use lib.ListN.{length, take, drop, getD, length-append}
 use lib.Seq.{sets, sets-eq, take-append-seam, drop-append-seam, getD-drop}
 use lib.Dec.{eqb, ltb}
 use Rattle.refusal.specs.declared.Refusal.{Refusal}
-use Rattle.refusal.specs.Outcome.{Outcome, ok, refused, then, unless, walk}
+use Rattle.refusal.specs.Outcome.{ok, then, unless, walk}
+use Rattle.refusal.specs.Laws.{same-ok, then-ok}
 use Rattle.lists.specs.Walks.{numbered}
 use Rattle.space.specs.declared.Point3.{Point3}
 use Rattle.space.specs.declared.Precision.{Precision}
@@ -21,10 +21,11 @@ use Rattle.space.specs.Near.{nearOf}
 use Rattle.space.specs.Shapes.{Face, Cell, Solid}
 use Rattle.polygon.specs.Members.{All}
 use Rattle.room.specs.Rooms.{cellCounts, countsAt, Small}
-use Rattle.room.specs.Laws.{all-none, all-snoc, all-map}
+use Rattle.room.specs.Laws.{all-none, all-snoc, all-map, all-get}
 use Rattle.indexed.specs.declared.Pick.the-variants.{Only}
-use Rattle.indexed.specs.Indexed.{met, onlyIn, searchBy, Places, joined, placed, indexPoint, withFace, indexFace, indexFaces}
+use Rattle.indexed.specs.Indexed.{met, onlyIn, searchBy, Places, placed, indexPoint, withFace, indexFace, indexFaces}
 use Rattle.indexed.specs.Stored.{flat}
+use Rattle.indexed.specs.Laws.{joined-low}
 use Rattle.merge.specs.Merge.{merge}
 use Rattle.solids.specs.Frames.{facesAt}
 use Rattle.conform.specs.Cycles.{Among}
@@ -37,28 +38,21 @@ Below n l = All (λ k. k < n) l
 
 -- ---- a search gives a point's place, or the place after the last
 
-left : {A B : Type 0} (o : Outcome A) (f : A → Outcome B) (b : B) → then o f ≡ ok b → (a : A) × (o ≡ ok a) × (f a ≡ ok b)
-left (ok a) f b e = (a, refl, e)
-left (refused x) f b e = absurd (let z : _≡_ {A = ℕ} 0 1 = cc in omega arith)
-
-ok-is : {A : Type 0} {a b : A} → _≡_ {A = Outcome A} (ok a) (ok b) → a ≡ b
-ok-is e = cc
-
 once : (b : Bool) (i j : ℕ) → unless b 13 (ok i) ≡ ok j → i ≡ j
 once true i j e = absurd (let z : _≡_ {A = ℕ} 0 1 = cc in omega arith)
-once false i j e = ok-is e
+once false i j e = same-ok e
 
 met-low : (c : Closeness) (n h i j : ℕ) → met c n h i ≡ ok j → h ≤ n → i ≤ n → j ≤ n
 unfolding met
 met-low Near n h i j e a b = (let d = once (not (eqb h n)) i j e in omega (arith, d))
-met-low Apart n h i j e a b = (let d = ok-is e in omega (arith, d))
+met-low Apart n h i j e a b = (let d = same-ok e in omega (arith, d))
 met-low (Refused x) n h i j e a b = absurd (let z : _≡_ {A = ℕ} 0 1 = cc in omega arith)
 
 walk-low : (t : Precision) (q : Point3) (n : ℕ) (l : List Point3) (k h j : ℕ) → walk (λ h r. met (nearOf t q (r .it)) n h (r .place)) h (numbered k l) ≡ ok j → h ≤ n → k + length l ≤ n → j ≤ n
 unfolding walk numbered
-walk-low t q n [] k h j e a b = (let d = ok-is e in omega (arith, d))
+walk-low t q n [] k h j e a b = (let d = same-ok e in omega (arith, d))
 walk-low t q n (p ∷ l) k h j e a b =
-    let z = left (met (nearOf t q p) n h k) _ j e in
+    let z = then-ok (met (nearOf t q p) n h k) _ j e in
     walk-low t q n l (suc k) (z .0) j (z .2) (met-low (nearOf t q p) n h k (z .0) (z .1) a (omega arith)) (omega arith)
 
 only-low : (t : Precision) (q : Point3) (l : List Point3) (j : ℕ) → searchBy Only t q l ≡ ok j → j ≤ length l
@@ -67,30 +61,23 @@ only-low t q l j e = walk-low t q (length l) l 0 (length l) j e (omega arith) (o
 
 -- ---- the corners of a face
 
-apart : (i n : ℕ) → eqb i n ≡ false → i ≤ n → i < n
-apart i n e h = elim (decLt i n) [ yes k ↦ k | no k ↦ absurd (eqb-false i n e (omega arith)) ]
-
-more-below : (l : List Point3) (q : Point3) (b : Bool) (i : ℕ) → eqb i (length l) ≡ b → i ≤ length l → (length l ≤ length (joined l q b)) × (i < length (joined l q b))
-more-below l q true i e h = (let n = length-append l (q ∷ []) in (omega (arith, n), omega (arith, n)))
-more-below l q false i e h = (omega arith, apart i (length l) e h)
-
 point-below : (t : Precision) (s s′ : Places) (q : Point3) → indexPoint (searchBy Only t) s q ≡ ok s′ → Below (length (s .points)) (s .places) →
     (length (s .points) ≤ length (s′ .points)) × Below (length (s′ .points)) (s′ .places) × (length (s′ .places) ≡ length (s .places) + 1)
 unfolding indexPoint
 point-below t s s′ q e a =
-    let z = left (searchBy Only t q (s .points)) _ s′ e in
+    let z = then-ok (searchBy Only t q (s .points)) _ s′ e in
     let i = z .0 in
-    let w : placed s q i ≡ s′ = ok-is (z .2) in
-    let m = more-below (s .points) q (eqb i (length (s .points))) i refl (only-low t q (s .points) i (z .1)) in
+    let w : placed s q i ≡ s′ = same-ok (z .2) in
+    let m = joined-low (s .points) q (eqb i (length (s .points))) i refl (only-low t q (s .points) i (z .1)) in
     subst (λ x. (length (s .points) ≤ length (x .points)) × Below (length (x .points)) (x .places) × (length (x .places) ≡ length (s .places) + 1)) w
     (m .0, all-snoc _ (s .places) i (all-map _ _ (s .places) (λ k h. omega (arith, m .0)) a) (m .1), length-append (s .places) (i ∷ []))
 
 points-below : (t : Precision) (l : List Point3) (s s′ : Places) → walk (indexPoint (searchBy Only t)) s l ≡ ok s′ → Below (length (s .points)) (s .places) →
     (length (s .points) ≤ length (s′ .points)) × Below (length (s′ .points)) (s′ .places) × (length (s′ .places) ≡ length (s .places) + length l)
 unfolding walk
-points-below t [] s s′ e a = subst (λ x. (length (s .points) ≤ length (x .points)) × Below (length (x .points)) (x .places) × (length (x .places) ≡ length (s .places) + length {A = Point3} [])) (ok-is e) (omega arith, a, omega arith)
+points-below t [] s s′ e a = subst (λ x. (length (s .points) ≤ length (x .points)) × Below (length (x .points)) (x .places) × (length (x .places) ≡ length (s .places) + length {A = Point3} [])) (same-ok e) (omega arith, a, omega arith)
 points-below t (q ∷ l) s s′ e a =
-    let z = left (indexPoint (searchBy Only t) s q) _ s′ e in
+    let z = then-ok (indexPoint (searchBy Only t) s q) _ s′ e in
     let u = point-below t s (z .0) q (z .1) a in
     let v = points-below t l (z .0) s′ (z .2) (u .1) in
     (omega (arith, u .0, v .0), v .1, omega (arith, u .2, v .2))
@@ -101,10 +88,10 @@ face-below : (t : Precision) (s s′ : Solid) (f : Face) → indexFace (searchBy
     All (Below (length (s′ .points))) (s′ .faces) × (map length (s′ .faces) ≡ map length (s .faces) ++ (length (f .points) ∷ []))
 unfolding indexFace
 face-below t s s′ f e a =
-    let z = left (walk (indexPoint (searchBy Only t)) (record { points = s .points; places = [] }) (f .points)) _ s′ e in
+    let z = then-ok (walk (indexPoint (searchBy Only t)) (record { points = s .points; places = [] }) (f .points)) _ s′ e in
     let r = z .0 in
     let u = points-below t (f .points) (record { points = s .points; places = [] }) (z .0) (z .1) (all-none _) in
-    let w : withFace s r ≡ s′ = ok-is (z .2) in
+    let w : withFace s r ≡ s′ = same-ok (z .2) in
     let n : length (r .places) ≡ length (f .points) = omega (arith, u .2) in
     subst (λ x. All (Below (length (x .points))) (x .faces) × (map length (x .faces) ≡ map length (s .faces) ++ (length (f .points) ∷ []))) w
     (all-snoc _ (s .faces) (r .places) (all-map _ _ (s .faces) (λ g h. all-map _ _ g (λ k y. omega (arith, u .0)) h) a) (u .1), map-snoc (s .faces) (r .places) ∙ ap (λ y. map length (s .faces) ++ (y ∷ [])) n)
@@ -112,33 +99,27 @@ face-below t s s′ f e a =
 faces-below : (t : Precision) (c : Cell) (s s′ : Solid) → walk (indexFace (searchBy Only t)) s c ≡ ok s′ → All (Below (length (s .points))) (s .faces) →
     All (Below (length (s′ .points))) (s′ .faces) × (map length (s′ .faces) ≡ map length (s .faces) ++ cellCounts c)
 unfolding walk cellCounts
-faces-below t [] s s′ e a = subst (λ x. All (Below (length (x .points))) (x .faces) × (map length (x .faces) ≡ map length (s .faces) ++ [])) (ok-is e) (a, sym (append-nil (map length (s .faces))))
+faces-below t [] s s′ e a = subst (λ x. All (Below (length (x .points))) (x .faces) × (map length (x .faces) ≡ map length (s .faces) ++ [])) (same-ok e) (a, sym (append-nil (map length (s .faces))))
 faces-below t (f ∷ c) s s′ e a =
-    let z = left (indexFace (searchBy Only t) s f) _ s′ e in
+    let z = then-ok (indexFace (searchBy Only t) s f) _ s′ e in
     let u = face-below t s (z .0) f (z .1) a in
     let v = faces-below t c (z .0) s′ (z .2) (u .0) in
     (v .0, v .1 ∙ ap (λ y. y ++ cellCounts c) (u .1) ∙ append-assoc (map length (s .faces)) (length (f .points) ∷ []) (cellCounts c))
 
 few : (b : Bool) (s s′ : Solid) → then (unless b 14 (ok (length (s .points)))) (λ _. ok s) ≡ ok s′ → (b ≡ false) × (s ≡ s′)
 few true s s′ e = absurd (let z : _≡_ {A = ℕ} 0 1 = cc in omega arith)
-few false s s′ e = (refl, ok-is e)
+few false s s′ e = (refl, same-ok e)
 
 -- each place is one of the points, of which there are at most 4,096, and the faces have their corners
 pub merge-below : (t : Precision) (c : Cell) (s : Solid) → merge t c ≡ ok s → All (Below (length (s .points))) (s .faces) × (map length (s .faces) ≡ cellCounts c) × (length (s .points) ≤ 4096)
 unfolding merge
 merge-below t c s e =
-    let z = left (indexFaces (searchBy Only t) c) _ s e in
+    let z = then-ok (indexFaces (searchBy Only t) c) _ s e in
     let y = few (ltb 4096 (length (z .0 .points))) (z .0) s (z .2) in
     let u = faces-below t c (record { points = []; faces = [] }) (z .0) (z .1) (all-none _) in
     subst (λ x. All (Below (length (x .points))) (x .faces) × (map length (x .faces) ≡ cellCounts c) × (length (x .points) ≤ 4096)) (y .1) (u .0, u .1, ltb-false 4096 (length (z .0 .points)) (y .0))
 
 -- ---- the places in a slice
-
-all-get : {A : Type 0} (p : A → Type 0) (l : List A) (x : ℕ) (d : A) → All p l → x < length l → p (getD l x d)
-unfolding All
-all-get p [] x d a h = absurd (not-suc-le-zero h)
-all-get p (y ∷ l) zero d a h = a .0
-all-get p (y ∷ l) (suc x) d a h = all-get p l x d (a .1) (le-of-suc-le-suc h)
 
 get-left : (l r : List ℕ) (x : ℕ) → x < length l → getD (l ++ r) x 0 ≡ getD l x 0
 get-left [] r x h = absurd (not-suc-le-zero h)

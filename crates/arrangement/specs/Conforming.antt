@@ -1,6 +1,6 @@
 -- What holds of every arrangement: each vertex of a facet is one of its points, a facet keeps its corners, and the vertices fit the room.
 use mathlib.Core.Path.{_≡_, refl, sym, ap, _∙_, subst}
-use mathlib.Core.Bool.{Bool, true, false, not}
+use mathlib.Core.Bool.{not}
 use mathlib.Core.List.{List, [], _∷_, _++_, map}
 use Prim.Native.Nat.{ℕ, zero, suc, _+_, _≤_, _<_}
 use native.Mathlib.Omega.{arith}
@@ -8,20 +8,21 @@ use borrow.Author.Tests.{ltb-false}
 use lib.ListN.{length, take, drop, getD, length-append, length-map}
 use lib.Dec.{eqb, ltb}
 use Rattle.refusal.specs.Outcome.{Outcome, ok, then, unless, walk}
+use Rattle.refusal.specs.Laws.{same-ok, never-ok, then-ok, unless-ok}
 use Rattle.lists.specs.Walks.{Pair, pairsTo, cyclic, numbered}
 use Rattle.lists.specs.Laws.{length-cyclic}
 use Rattle.space.specs.declared.Point3.{Point3}
 use Rattle.space.specs.declared.Precision.{Precision}
 use Rattle.space.specs.Vector.{nowhere}
 use Rattle.space.specs.Shapes.{Face, Cell, Solid, corners}
-use Rattle.polygon.specs.Members.{All, same-ok, never-ok, then-ok, all-append}
+use Rattle.polygon.specs.Members.{All, all-append}
 use Rattle.room.specs.Rooms.{cellCounts}
-use Rattle.room.specs.Laws.{corners-cons, corners-none, length-cellCounts, all-none, all-snoc, all-map, all-both}
-use Rattle.room.specs.Steps.{unless-ok, walk-keeps}
+use Rattle.room.specs.Laws.{corners-cons, length-cellCounts, all-none, all-snoc, all-map, all-both}
+use Rattle.room.specs.Steps.{walk-keeps}
 use Rattle.indexed.specs.declared.Pick.the-variants.{Only}
 use Rattle.indexed.specs.Indexed.{Search, searchBy, Places, joined, indexPoint, indexFace, indexFaces}
 use Rattle.indexed.specs.Stored.{flat}
-use Rattle.indexed.specs.Laws.{flat-snoc}
+use Rattle.indexed.specs.Laws.{flat-snoc, joined-most, flat-corners}
 use Rattle.merge.specs.Merge.{merge}
 use Rattle.incidence.specs.declared.Line.{Line}
 use Rattle.incidence.specs.declared.Incidence.{Incidence}
@@ -211,16 +212,12 @@ arranged t room c s e a =
 
 -- ---- no more points than corners
 
-more-most : (l : List Point3) (q : Point3) (b : Bool) → length (joined l q b) ≤ length l + 1
-more-most l q true = omega (arith, length-append l (q ∷ []))
-more-most l q false = omega arith
-
 module _ (find : Search) where
   point-most : (s s′ : Places) (q : Point3) → indexPoint find s q ≡ ok s′ → length (s′ .points) ≤ length (s .points) + 1
   unfolding indexPoint
   point-most s s′ q e =
       let z = then-ok (find q (s .points)) _ s′ e in
-      subst (λ x. length (x .points) ≤ length (s .points) + 1) (same-ok (z .2)) (more-most (s .points) q (eqb (z .0) (length (s .points))))
+      subst (λ x. length (x .points) ≤ length (s .points) + 1) (same-ok (z .2)) (joined-most (s .points) q (eqb (z .0) (length (s .points))))
 
   points-most : (l : List Point3) (s s′ : Places) → walk (indexPoint find) s l ≡ ok s′ → length (s′ .points) ≤ length (s .points) + length l
   unfolding walk
@@ -249,13 +246,5 @@ merge-most t c s e =
     let y = then-ok (unless (ltb 4096 (length (z .0 .points))) 14 (ok (length (z .0 .points)))) _ s (z .2) in
     omega (arith, ap (λ x. length (x .points)) (same-ok (y .2)), faces-most (searchBy Only t) c (record { points = []; faces = [] }) (z .0) (z .1))
 
-flat-by : (fs : List (List ℕ)) (c : Cell) → map length fs ≡ cellCounts c → length (flat fs) ≡ corners 0 c
-unfolding flat cellCounts
-flat-by [] [] e = sym corners-none
-flat-by [] (g ∷ c) e = absurd (omega (arith, ap length e))
-flat-by (f ∷ fs) [] e = absurd (omega (arith, ap length e))
-flat-by (f ∷ fs) (g ∷ c) e =
-    omega (arith, flat-by fs c (ap (drop 1) e), ap (λ l. getD l 0 0) e, length-append f (flat fs), corners-cons g c)
-
 pub merge-corners : (t : Precision) (c : Cell) (s : Solid) → merge t c ≡ ok s → length (flat (s .faces)) ≡ corners 0 c
-merge-corners t c s e = flat-by (s .faces) c (merge-below t c s e .1)
+merge-corners t c s e = flat-corners (s .faces) c (merge-below t c s e .1)

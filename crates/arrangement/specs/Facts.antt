@@ -3,22 +3,23 @@ use mathlib.Core.Path.{_≡_, refl, sym, ap, _∙_, subst}
 use mathlib.Core.List.{List, [], _∷_, _++_, append-nil}
 use Prim.Native.Nat.{ℕ, zero, suc, _+_, _*_, _≤_, _<_}
 use native.Mathlib.Omega.{arith}
-use native.Mathlib.Nat.{not-suc-le-zero, le-of-suc-le-suc}
 use lib.ListN.{length, take, drop, getD, replicate, length-append}
-use lib.Seq.{sets, sets-eq, length-sets, take-at, drop-nil, getD-take}
+use lib.Seq.{sets-eq, length-sets, drop-nil, getD-take}
 use lib.Ieee.{Float}
 use Rattle.refusal.specs.Outcome.{Outcome, ok}
+use Rattle.refusal.specs.Laws.{same-ok, then-ok}
+use Rattle.lists.specs.Laws.{front-stored}
 use Rattle.space.specs.declared.Precision.{Precision}
 use Rattle.space.specs.Shapes.{Cell}
 use Rattle.polygon.specs.Memory.{floatsOf}
-use Rattle.polygon.specs.Members.{All, same-ok, then-ok, all-append}
-use Rattle.room.specs.Laws.{length-floatsOf}
+use Rattle.polygon.specs.Members.{All, all-append}
+use Rattle.room.specs.Laws.{length-floatsOf, all-get}
 use Rattle.indexed.specs.Stored.{flat}
 use Rattle.stack.specs.Stacks.{cellsSizes, Sound}
 use Rattle.merge.specs.Merge.{ownersFrom}
 use Rattle.arrange.specs.Arrange.{arrange}
 use Rattle.arrange.specs.Merged.{Below}
-use Rattle.groups.specs.Groups.{joined, bounds, Grouped}
+use Rattle.groups.specs.Groups.{joined, bounds, Grouped, length-bounds}
 use Rattle.arrangement.specs.declared.Layout.{Layout}
 use Rattle.arrangement.specs.Arrangements.{facesOf, Arrangement, arrangeCells, laidOf, Laid}
 use Rattle.arrangement.specs.Conforming.{Conforms, arranged-many, arranged}
@@ -69,12 +70,6 @@ arrangement-facets t room cs a e sound =
 
 -- ---- of the slices
 
-all-get : {A : Type 0} (p : A → Type 0) (l : List A) (i : ℕ) (d : A) → All p l → i < length l → p (getD l i d)
-unfolding All
-all-get p [] i d a h = absurd (not-suc-le-zero h)
-all-get p (x ∷ l) zero d a h = a .0
-all-get p (x ∷ l) (suc i) d a h = all-get p l i d (a .1) (le-of-suc-le-suc h)
-
 all-flat : (p : ℕ → Type 0) (fs : List (List ℕ)) → All (All p) fs → All p (flat fs)
 unfolding All flat
 all-flat p [] a = tt
@@ -84,14 +79,6 @@ joined-flat : (fs : List (List ℕ)) → joined fs ≡ flat fs
 unfolding joined flat
 joined-flat [] = refl
 joined-flat (f ∷ fs) = ap (λ l. f ++ l) (joined-flat fs)
-
-length-bounds : (a : ℕ) (fs : List (List ℕ)) → length (bounds a fs) ≡ suc (length fs)
-unfolding bounds
-length-bounds a [] = refl
-length-bounds a (f ∷ fs) = ap suc (length-bounds (a + length f) fs)
-
-front : {A : Type 0} (l s : List A) (m : ℕ) → m ≡ length l → length l ≤ length s → take m (sets s 0 l) ≡ l
-front l s m e h = ap (take m) (sets-eq l s 0 (omega arith)) ∙ take-at l (drop (0 + length l) s) m (sym e)
 
 module _ {o : Outcome Arrangement} {p₀ : List Float} {c₀ s₀ w₀ : List ℕ} {p : List Float} {c s w : List ℕ} {r : Layout} (L : Laid o p₀ c₀ s₀ w₀ p c s w r)
     {a : Arrangement} (e : o ≡ ok a) {room k : ℕ} (G : Facets a room k) (cycles : room ≤ length c₀) (starts : room < length s₀) where
@@ -105,7 +92,7 @@ module _ {o : Outcome Arrangement} {p₀ : List Float} {c₀ s₀ w₀ : List �
 
   -- the vertices of all cycles, one behind another
   pub vertices-are : take (r .vertices) c ≡ flat (a .cycles)
-  vertices-are = ap (take (r .vertices)) (L .cycles a e) ∙ front (flat (a .cycles)) c₀ (r .vertices) vertices-many (omega (arith, G .conforms .fit))
+  vertices-are = ap (take (r .vertices)) (L .cycles a e) ∙ front-stored (flat (a .cycles)) c₀ (r .vertices) vertices-many (omega (arith, G .conforms .fit))
 
   -- they are rows, as fusing takes them
   pub cycles-grouped : Grouped (a .cycles) [] s₀ (take (r .vertices) c) s (r .facets)
@@ -133,5 +120,5 @@ module _ {o : Outcome Arrangement} {p₀ : List Float} {c₀ s₀ w₀ : List �
   pub owners-cells : room ≤ length w₀ → (i : ℕ) → i < r .facets → getD w i 0 < k
   owners-cells h i q =
       let m : r .facets ≡ length (a .owners) = facets-many ∙ sym (G .owned) in
-      let u : take (r .facets) w ≡ a .owners = ap (take (r .facets)) (L .owners a e) ∙ front (a .owners) w₀ (r .facets) m (omega (arith, G .owned, G .many)) in
+      let u : take (r .facets) w ≡ a .owners = ap (take (r .facets)) (L .owners a e) ∙ front-stored (a .owners) w₀ (r .facets) m (omega (arith, G .owned, G .many)) in
       subst (λ x. x < k) (ap (λ l. getD l i 0) (sym u) ∙ getD-take (r .facets) w i 0 q) (all-get (λ x. x < k) (a .owners) i 0 (G .owners) (omega (arith, m)))

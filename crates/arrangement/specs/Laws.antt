@@ -11,13 +11,13 @@ use Rattle.refusal.specs.declared.Refusal.{Refusal}
 use Rattle.refusal.specs.declared.Verdict.{Verdict}
 use Rattle.refusal.specs.declared.Verdict.the-variants as D
 use Rattle.refusal.specs.Outcome.{Outcome, ok, refused, then, heard}
-use Rattle.refusal.specs.Laws.{stop, go}
+use Rattle.refusal.specs.Laws.{stop, go, same-ok, never-ok}
 use Rattle.lists.specs.Laws.{next, done}
 use Rattle.space.specs.declared.Point3.{Point3}
 use Rattle.space.specs.declared.Precision.{Precision}
 use Rattle.space.specs.Shapes.{Face, Cell, Solid, corners, allCorners}
 use Rattle.polygon.specs.Memory.{floatsOf, pointsAt}
-use Rattle.polygon.specs.Members.{All, same-ok, never-ok, all-append}
+use Rattle.polygon.specs.Members.{All, all-append}
 use Rattle.room.specs.Rooms.{faceFloats, cellFloats, cellCounts, cellAt, countsAt, Within, Small}
 use Rattle.room.specs.Laws.{corners-cons, corners-none, length-cellCounts, cell-back, within-stored, points-stored}
 use Rattle.clip.specs.Clips.{Wide}
@@ -30,6 +30,7 @@ use Rattle.stack.specs.Laws.{all-corners-from, length-cellsSizes, wide-corners}
 use Rattle.merge.specs.Merge.{merge, ownersFrom}
 use Rattle.merge.specs.Laws.{Owned}
 use Rattle.solids.specs.Frames.{facesAt, Placing}
+use Rattle.solids.specs.Faces.{placing-le}
 use Rattle.inside.specs.Slices.{Roomy}
 use Rattle.arrange.specs.Arrange.{conformAll, arrange}
 use Rattle.arrange.specs.Facets as F
@@ -41,11 +42,6 @@ use Rattle.arrangement.specs.Arrangements.{facesOf, Arrangement, arrange
 use Rattle.arrangement.specs.Conforming.{arranged, conform-many, merge-most, merge-corners}
 
 -- ---- where runs begin
-
-placing-low : (ns : List ℕ) (at m : ℕ) → Placing ns at m → at ≤ m
-unfolding Placing
-placing-low [] at m p = p
-placing-low (n ∷ ns) at m p = omega (arith, placing-low ns (at + n) m p)
 
 -- of n runs, i are done, which reach to `at`
 pub record Starting (z : List ℕ) (n : ℕ) (s₀ s : List ℕ) (at i : ℕ) : Type 0 where
@@ -63,7 +59,7 @@ module _ {z : List ℕ} {n : ℕ} {s₀ s : List ℕ} {at i : ℕ} (I : Starting
   opened h k = rw (next z n i 0 h k) at (I .left)
 
   pub starting-low : i < n → n ≤ length z → at + getD z i 0 ≤ 4611686018427387904
-  starting-low h k = placing-low _ _ _ (opened h k)
+  starting-low h k = placing-le _ _ _ (opened h k)
 
   pub starting-step : i < n → n ≤ length z → Starting z n s₀ (set s i at) (at + getD z i 0) (i + 1)
   unfolding startsFrom

@@ -9,6 +9,8 @@ use native.Mathlib.Omega.{arith}
 use lib.ListN.{length, getD, length-map}
 use lib.Dec.{T, eqb, eqb-refl}
 use Rattle.refusal.specs.Outcome.{Outcome, ok, refused, unless}
+use Rattle.refusal.specs.Laws.{unless-ok}
+use Rattle.refusal.specs.Tests.{or-false}
 use Rattle.sums.specs.Sum.{sum, sum-one, hit, occ, _∈_, Each}
 use Rattle.sums.specs.Keys.{put, keep, users, pairs}
 use Rattle.sums.specs.KeyLaws.{sum-ext, each-append, each-imp, each-all, users-has}
@@ -17,7 +19,7 @@ use Rattle.sums.specs.MeetLaws.{Two, only-two}
 use Rattle.sums.specs.CountLaws.{places-count}
 use Rattle.sums.specs.OrderLaws.{Sorted, sorted-lone, sorted-keep}
 use Rattle.bodies.specs.Fusing.{Facet, cellOf, verticesOf, sameCycle, keys, exterior, interfaces, facesOf, judgeUsers, Sense, outward, inward, shellsOf, bodyOf, materials, Bodies, fuse}
-use Rattle.bodies.specs.Passed.{unless-ok, or-false, Made, made-each}
+use Rattle.bodies.specs.Passed.{Made, made-each}
 use Rattle.bodies.specs.ListLaws.{isOutward, isInward, outOf, inOf, Ordered, Valid, size, keyOf, listed, listed-weight, owned-once, shared-never, cells, BodyMade, body-made, Answered, answered}
 use Rattle.bodies.specs.EdgeLaws.{runsEdge, ran, body-edges}
 use Rattle.bodies.specs.BodyLaws.{OneBody, one-bodies, users-judged, two-keys}

@@ -8,13 +8,15 @@ use native.Mathlib.Omega.{arith}
 use native.Mathlib.Decide.{decLe}
 use lib.ListN.{length, length-map}
 use lib.Dec.{T, eqb, eqb-refl}
-use Rattle.refusal.specs.Outcome.{Outcome, ok, refused, unless}
+use Rattle.refusal.specs.Outcome.{Outcome, ok, unless}
+use Rattle.refusal.specs.Laws.{unless-ok, never-ok}
+use Rattle.refusal.specs.Tests.{or-false}
 use Rattle.lists.specs.Walks.{cyclic}
 use Rattle.sums.specs.Sum.{sum, hit, hit-cases, hit-same, less, less-cases, pick, _∈_, Each, none, here, there, cases-in}
 use Rattle.sums.specs.Keys.{range, key, order, users}
 use Rattle.sums.specs.KeyLaws.{sum-append, sum-map, sum-order, full-hit, full-find, full-only, full-at-least, full-list, getD-map-lt, each-in, users-all, users-has}
 use Rattle.bodies.specs.Fusing.{Facet, verticesOf, facesOf, Run, noRun, runAt, runOf, runs, rises, edgeKeys, Sense, judgeEdge, checkEdges}
-use Rattle.bodies.specs.Passed.{unless-ok, or-false, walk-ok}
+use Rattle.bodies.specs.Passed.{walk-ok}
 use Rattle.bodies.specs.ListLaws.{BodyMade}
 
 -- A run goes from a to d.
@@ -134,15 +136,12 @@ module _ (rs : List Run) (fine : checkEdges rs ≡ ok tt) where
   unfolding judgeEdge
   other x h = go (users ks x) refl (judged x h)
     where
-      never : {B : Type 0} (r : _) → _≡_ {A = Outcome (Unit {0})} (refused r) (ok tt) → B
-      never r e = let z : _≡_ {A = ℕ} 0 1 = cc in absurd (omega arith)
-
       go : (l : List ℕ) → users ks x ≡ l → judgeEdge rs l ≡ ok tt → Other x
-      go [] e j = never _ j
-      go (u ∷ []) e j = never _ j
+      go [] e j = never-ok j
+      go (u ∷ []) e j = never-ok j
       go (u ∷ v ∷ []) e j = other-of x u v h e (differ (rises (runAt rs u)) (rises (runAt rs v))
           (or-false (eqb (runAt rs u .face) (runAt rs v .face)) (eqb (rises (runAt rs u)) (rises (runAt rs v))) (unless-ok _ 20 (ok tt) tt j .0) .1))
-      go (u ∷ v ∷ w ∷ l) e j = never _ j
+      go (u ∷ v ∷ w ∷ l) e j = never-ok j
 
   -- Two runs that go the same way are one.
   unique : (x z : ℕ) → x < length rs → z < length rs → runAt rs x .tail ≡ runAt rs z .tail → runAt rs x .tip ≡ runAt rs z .tip → z ≡ x

@@ -6,6 +6,7 @@ use Prim.Native.Nat.{ℕ, zero, suc, _+_, _≤_, _<_}
 use native.Mathlib.Omega.{arith}
 use lib.ListN.{length, getD, length-map, length-append}
 use Rattle.refusal.specs.Outcome.{Outcome, ok, refused, then, walk, each}
+use Rattle.refusal.specs.Laws.{then-ok}
 use Rattle.lists.specs.Walks.{cyclic}
 use Rattle.sums.specs.Sum.{sum, hit, hit-cases, hit-same, occ, pick, Each}
 use Rattle.sums.specs.Components.{components}
@@ -13,7 +14,7 @@ use Rattle.sums.specs.ComponentLaws.{Graph, Components, components-found}
 use Rattle.sums.specs.Keys.{put, keep, key, users, lone, pairs, nbrs}
 use Rattle.sums.specs.KeyLaws.{sum-ext, sum-append, sum-map, sum-put, full-getD, full-hit, each-append, each-map, each-all, each-imp, each-getD, graph-of, all-each, sum-plus, occ-lone, lone-in, own-one, shared-more, Sharing, pairs-each}
 use Rattle.bodies.specs.Fusing.{Facet, cellOf, verticesOf, keys, exterior, interfaces, adjacency, facesOf, Run, noRun, runAt, runOf, runs, edgeKeys, edges, neighbors, checkFacets, checkEdges, Sense, outward, inward, Shells, placeOuter, placeBy, outerFirst, placeShell, orderShells, shellsOf, bodyOf, materials, Bodies, fuse}
-use Rattle.bodies.specs.Passed.{then-ok, each-ok, Made}
+use Rattle.bodies.specs.Passed.{each-ok, Made}
 
 -- ---- the shells of a body are the outward one and the inward ones
 

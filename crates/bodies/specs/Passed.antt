@@ -1,26 +1,9 @@
 -- What an answer tells of the steps that gave it.
-use mathlib.Core.Path.{_≡_, refl, sym, ap, _∙_}
-use mathlib.Core.Bool.{Bool, true, false, _||_}
+use mathlib.Core.Path.{_≡_, sym, ap, _∙_}
 use mathlib.Core.List.{List, [], _∷_, _++_, append-assoc, append-nil}
-use Prim.Native.Nat.{ℕ}
-use native.Mathlib.Omega.{arith}
-use Rattle.refusal.specs.Outcome.{Outcome, ok, refused, then, unless, walk, each}
+use Rattle.refusal.specs.Outcome.{Outcome, ok, walk, each}
+use Rattle.refusal.specs.Laws.{then-ok}
 use Rattle.sums.specs.Sum.{Each}
-
-never : {A B : Type 0} (r : _) (a : A) → _≡_ {A = Outcome A} (refused r) (ok a) → B
-never r a e = let z : _≡_ {A = ℕ} 0 1 = cc in absurd (omega arith)
-
-pub then-ok : {A B : Type 0} (o : Outcome A) (f : A → Outcome B) (b : B) → then o f ≡ ok b → (a : A) × (o ≡ ok a) × (f a ≡ ok b)
-then-ok (ok a) f b e = (a, refl, e)
-then-ok (refused r) f b e = never r b e
-
-pub unless-ok : {A : Type 0} (t : Bool) (n : ℕ) (o : Outcome A) (a : A) → unless t n o ≡ ok a → (t ≡ false) × (o ≡ ok a)
-unless-ok true n o a e = never _ a e
-unless-ok false n o a e = (refl, e)
-
-pub or-false : (a b : Bool) → (a || b) ≡ false → (a ≡ false) × (b ≡ false)
-or-false true b e = let z : _≡_ {A = ℕ} 0 1 = cc in absurd (omega arith)
-or-false false b e = (refl, e)
 
 -- every test of a walk passed
 pub walk-ok : {A : Type 0} (t : A → Outcome (Unit {0})) (l : List A) (u : Unit {0}) → walk (λ _ x. t x) tt l ≡ ok u → Each (λ x. t x ≡ ok tt) l

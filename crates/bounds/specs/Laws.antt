@@ -9,6 +9,7 @@ use lib.Ieee.{Float}
 use Rattle.refusal.specs.declared.Refusal.{Refusal}
 use Rattle.refusal.specs.declared.Verdict.{Verdict}
 use Rattle.refusal.specs.declared.Verdict.the-variants as D
+use Rattle.refusal.specs.Laws.{never-fine}
 use Rattle.space.specs.declared.Point3.{Point3}
 use Rattle.space.specs.declared.Precision.{Precision}
 use Rattle.space.specs.Shapes.{Face, Cell}
@@ -20,19 +21,11 @@ use Rattle.polygon.specs.Members.{All}
 use Rattle.room.specs.Rooms.{faceAt, cellAt, countsAt}
 use Rattle.room.specs.Laws.{next-point, points-done, all-map}
 use Rattle.cell.specs.Laws.{Ahead, ahead-next, ahead-inside, ahead-face, ahead-done}
-use Rattle.solids.specs.Apart.{firstOf, eachIn}
-use Rattle.solids.specs.Laws.{each-go, each-stop}
+use Rattle.solids.specs.Apart.{eachIn}
+use Rattle.solids.specs.Laws.{each-go, each-stop, first-fine}
 use Rattle.bounds.specs.Bounds.{notAbove, wellBelow, judged, pointIn, pointsIn, against, Lies}
 
 -- ---- what a fine verdict says
-
-never-fine : {B : Type 0} {r : Refusal} → D.Refused r ≡ D.Fine → B
-never-fine e = absurd (let z : _≡_ {A = ℕ} 0 1 = cc in omega arith)
-
-first-fine : (v w : Verdict) → firstOf v w ≡ D.Fine → (v ≡ D.Fine) × (w ≡ D.Fine)
-unfolding firstOf
-first-fine D.Fine w e = (refl, e)
-first-fine (D.Refused r) w e = never-fine e
 
 each-fine : {A : Type 0} (f : A → Verdict) (l : List A) → eachIn f l ≡ D.Fine → All (λ x. f x ≡ D.Fine) l
 unfolding eachIn All

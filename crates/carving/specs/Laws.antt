@@ -1,16 +1,18 @@
 -- Laws of the remainder and of the pieces, in the words of the code.
 use mathlib.Core.Path.{_≡_, refl, sym, ap, _∙_, subst}
-use mathlib.Core.Bool.{true, false}
+use mathlib.Core.Bool.{true, false, true≢false, false≢true}
 use mathlib.Core.List.{List}
 use Prim.Native.Nat.{ℕ, _+_, _*_, _≤_}
 use native.Mathlib.Omega.{arith}
-use lib.ListN.{length, take, drop}
-use lib.Seq.{sets, sets-eq, take-at, length-sets}
+use lib.ListN.{length, take}
+use lib.Seq.{sets, length-sets}
 use lib.Ieee.{Float}
 use Rattle.refusal.specs.declared.Refusal.{Refusal}
 use Rattle.refusal.specs.declared.Verdict.{Verdict}
 use Rattle.refusal.specs.declared.Verdict.the-variants.{Fine, Refused}
 use Rattle.refusal.specs.Outcome.{Outcome, ok, refused, then, heard}
+use Rattle.refusal.specs.Laws.{never-ok}
+use Rattle.lists.specs.Laws.{front-stored}
 use Rattle.space.specs.declared.Plane.{Plane}
 use Rattle.space.specs.declared.Planed.{Planed}
 use Rattle.space.specs.declared.Planed.the-variants as P
@@ -18,7 +20,6 @@ use Rattle.space.specs.declared.Precision.{Precision}
 use Rattle.space.specs.Frames.{planed}
 use Rattle.space.specs.Shapes.{Cell, Part, nothing, part}
 use Rattle.side.specs.Sides.{oppositeOf}
-use Rattle.polygon.specs.Members.{never-ok}
 use Rattle.room.specs.Rooms.{cellFloats, cellCounts, cellAt, countsAt, Within}
 use Rattle.room.specs.Laws.{length-cellFloats, length-cellCounts, cell-stored, within-stored}
 use Rattle.room.specs.Steps.{then-then}
@@ -35,21 +36,13 @@ use Rattle.carving.specs.declared.Carved.{Carved}
 use Rattle.carving.specs.Carvings.{Carving, carving, carveOn, carveCell, carvePart, clipPart}
 use Rattle.carving.specs.Rests.{partAt, restAt, Sits, Kept, Left, Place, keptRest, keptFloats, keptCounts, Keeps, Inside, carvingAt, Ready, ended, Carves}
 
-no : true ≡ false → ⊥
-no e = let z : _≡_ {A = ℕ} 0 1 = cc in omega arith
-
 -- ---- the remainder
-
--- what was stored at the front is there
-front-stored : {A : Type 0} (d vs : List A) (n : ℕ) → n ≡ length vs → length vs ≤ length d → take n (sets d 0 vs) ≡ vs
-front-stored d vs n e h =
-    ap (take n) (sets-eq vs d 0 (omega arith)) ∙ take-at vs (drop (0 + length vs) d) n (sym e)
 
 -- a cell that was copied to the front of a room sits there
 module _ (c : Cell) (d : List Float) (n : List ℕ) (h : length (cellFloats c) ≤ length d) (g : length c ≤ length n) where
   cell-copied : cellAt (sets d 0 (cellFloats c)) 0 (countsAt (sets n 0 (cellCounts c)) 0 (length c)) ≡ c
   cell-copied =
-      ap (cellAt (sets d 0 (cellFloats c)) 0) (front-stored n (cellCounts c) (length c) (sym (length-cellCounts c)) (omega (arith, length-cellCounts c)))
+      ap (cellAt (sets d 0 (cellFloats c)) 0) (front-stored (cellCounts c) n (length c) (sym (length-cellCounts c)) (omega (arith, length-cellCounts c)))
       ∙ cell-stored d 0 c (omega arith)
 
 module _ (t : Precision) (room : ℕ) (w : Plane) (c : Cell) where
@@ -72,14 +65,14 @@ module _ (t : Precision) (room : ℕ) (w : Plane) (c : Cell) where
         let l = length-cellFloats (x .cell) in
         let i = length-cellCounts (x .cell) in
         let e1 : take (12 * f + 3 * m) s′ ≡ cellFloats (x .cell) =
-        ap (take (12 * f + 3 * m)) (x .floats) ∙ front-stored s (cellFloats (x .cell)) (12 * f + 3 * m) (omega (arith, l, x .sized .0, x .sized .1)) (omega (arith, l, b .few, b .fit, ls .place)) in
+        ap (take (12 * f + 3 * m)) (x .floats) ∙ front-stored (cellFloats (x .cell)) s (12 * f + 3 * m) (omega (arith, l, x .sized .0, x .sized .1)) (omega (arith, l, b .few, b .fit, ls .place)) in
         let e2 : take f k′ ≡ cellCounts (x .cell) =
-        ap (take f) (x .counts) ∙ front-stored k (cellCounts (x .cell)) f (omega (arith, i, x .sized .0)) (omega (arith, i, b .few, ls .slots)) in
+        ap (take f) (x .counts) ∙ front-stored (cellCounts (x .cell)) k f (omega (arith, i, x .sized .0)) (omega (arith, i, b .few, ls .slots)) in
         let h : length (cellFloats (x .cell)) ≤ length d = omega (arith, l, b .few, b .fit, ld .place) in
         let g : length (x .cell) ≤ length n = omega (arith, b .few, ld .slots) in
         let q = cell-copied (x .cell) d n h g in
         let u : countsAt (sets n 0 (cellCounts (x .cell))) 0 (length (x .cell)) ≡ cellCounts (x .cell) =
-        front-stored n (cellCounts (x .cell)) (length (x .cell)) (sym i) (omega (arith, i)) in
+        front-stored (cellCounts (x .cell)) n (length (x .cell)) (sym i) (omega (arith, i)) in
         let base : Sits (length (x .cell)) (sets d 0 (cellFloats (x .cell))) (sets n 0 (cellCounts (x .cell))) = record {
           given = record {
             listed = omega (arith, length-sets n 0 (cellCounts (x .cell)));
@@ -100,23 +93,23 @@ module _ (t : Precision) (room : ℕ) (w : Plane) (c : Cell) where
 
     cut-kept : (p : Clipped) → Clips (clip t room w c) p s 0 k 0 s′ k′ → Kept (keptRest p) (keptFloats p d s′) (keptCounts p n k′) × (restAt (keptRest p) (keptFloats p d s′) (keptCounts p n k′) ≡ clip t room w c)
     unfolding told keptRest keptFloats keptCounts restAt partAt heard
-    cut-kept C.Nothing x = (record { sits = λ e. absurd (no (sym e)); fine = λ e. absurd (no (sym e)) }, x .is)
+    cut-kept C.Nothing x = (record { sits = λ e. absurd (false≢true e); fine = λ e. absurd (false≢true e) }, x .is)
     cut-kept (C.Part f m) x = let q = part-kept f m x in (record { sits = λ e. q .0; fine = λ e. refl }, sym (q .1))
-    cut-kept (C.Refused r) x = (record { sits = λ e. absurd (no (sym e)); fine = λ e. absurd (no (sym e)) }, x .is)
+    cut-kept (C.Refused r) x = (record { sits = λ e. absurd (false≢true e); fine = λ e. absurd (false≢true e) }, x .is)
 
 -- ---- one cut of the remainder
 
 pub left-stays : (g : Part → Outcome Part) (s : Rest) (d : List Float) (n : List ℕ) (e : Refusal) → s .verdict ≡ Refused e → Left g s (record { verdict = s .verdict; some = false; faces = 0 }) d n d n
 unfolding restAt heard
 left-stays g s d n e v = record {
-  kept = record { sits = λ x. absurd (no (sym x)); fine = λ x. absurd (no (sym x)) };
+  kept = record { sits = λ x. absurd (false≢true x); fine = λ x. absurd (false≢true x) };
   is = ap (λ y. heard y (partAt false 0 d n)) v ∙ ap (λ o. then o g) (sym (ap (λ y. heard y (partAt (s .some) (s .faces) d n)) v));
 }
 
 pub left-nothing : (t : Precision) (room : ℕ) (w : Plane) (s : Rest) (d : List Float) (n : List ℕ) → s .verdict ≡ Fine → s .some ≡ false → Left (clipPart t room w) s s d n d n
 unfolding restAt heard partAt clipPart
 left-nothing t room w s d n v e = record {
-  kept = record { sits = λ x. absurd (no (sym x ∙ e)); fine = λ x. v };
+  kept = record { sits = λ x. absurd (true≢false (sym x ∙ e)); fine = λ x. v };
   is =
       let q : restAt s d n ≡ ok nothing = ap (λ y. heard y (partAt (s .some) (s .faces) d n)) v ∙ ap (λ y. ok (partAt y (s .faces) d n)) e in
       q ∙ ap (λ o. then o (clipPart t room w)) (sym q);
@@ -234,7 +227,7 @@ module _ (t : Precision) (room : ℕ) (p : Plane) (s : Carved) (d : List Float) 
         Carves room (λ x. carvePart t room (x .out) (x .rest) p) s (record { rest = record { verdict = Refused x; some = false; faces = 0 }; list = s .list }) d n f m z d n f m z
     unfolding carvingAt restAt heard planed
     carves-refused o x eo ex = record {
-      ready = record { kept = record { sits = λ y. absurd (no (sym y)); fine = λ y. absurd (no (sym y)) }; holds = h .holds; fine = λ y. absurd (no (sym y)) };
+      ready = record { kept = record { sits = λ y. absurd (false≢true y); fine = λ y. absurd (false≢true y) }; holds = h .holds; fine = λ y. absurd (false≢true y) };
       is = ap (λ y. then {B = Carving} y (λ cs. refused x)) (list-of .1)
           ∙ sym (step-is ∙ ap (λ y. then y (λ o. carveOn t room o p (cellAt d 0 (countsAt n 0 (s .rest .faces))) (list-of .0))) (sym eo ∙ ap planed ex));
     }

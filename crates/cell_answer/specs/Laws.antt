@@ -14,16 +14,13 @@ use Rattle.space.specs.Shapes.{Solid}
 use Rattle.polygon.specs.Memory.{floatsOf}
 use Rattle.room.specs.Rooms.{countsAt}
 use Rattle.room.specs.Laws.{sets-append, length-floatsOf}
-use Rattle.job.specs.Written.{pointBytes}
-use Rattle.words.specs.Little.{digits}
 use Rattle.indexed.specs.Stored.{flat}
 use Rattle.sums.specs.Sum.{sum}
 use Rattle.solids.specs.Frames.{Placing}
-use Rattle.writer.specs.Rows.{row, length-row}
-use Rattle.writer.specs.Laws.{length-point}
+use Rattle.writer.specs.Rows.{row}
 use Rattle.writer.specs.Writing.{solidIn, Lent}
-use Rattle.answer.specs.Answers.{faceAnswer, solidAnswer}
-use Rattle.answer.specs.Laws.{length-count, length-faceAnswer}
+use Rattle.answer.specs.Answers.{solidAnswer}
+use Rattle.answer.specs.Laws.{solid-size}
 use Rattle.finish.specs.Finish.{total, solidsFloats, solidsPlaces, solidsCounts, solidsAt, solidsTold, Lain, Holding}
 use Rattle.finish.specs.Lists.{total-flat, points-both, places-both, faces-both, points-more, places-more, faces-more, this-size, this-mark, this-points, this-places, this-counts, solid-back}
 use Rattle.ended.specs.declared.Ended.{Ended}
@@ -31,29 +28,6 @@ use Rattle.ended.specs.Ends.{endedOf, written}
 use Rattle.cell_answer.specs.Solids.{solidsAnswer}
 
 -- ---- how many bytes there are
-
-faces-size : (fs : List (List ℕ)) → length (row faceAnswer fs) ≡ 4 * length fs + 4 * length (flat fs)
-unfolding row flat
-faces-size [] = refl
-faces-size (f ∷ fs) = omega (arith, faces-size fs, length-append (faceAnswer f) (row faceAnswer fs), length-append f (flat fs), length-faceAnswer f)
-
-solid-size : (s : Solid) → length (solidAnswer s) ≡ 8 + 24 * length (s .points) + 4 * length (s .faces) + 4 * length (flat (s .faces))
-unfolding solidAnswer
-solid-size s =
-    let a = digits 4 (length (s .points)) in
-    let b = row pointBytes (s .points) in
-    let d = digits 4 (length (s .faces)) in
-    let e = row faceAnswer (s .faces) in
-    omega (
-      arith,
-      length-append a (b ++ (d ++ e)),
-      length-append b (d ++ e),
-      length-append d e,
-      length-count (length (s .points)),
-      length-count (length (s .faces)),
-      length-row pointBytes 24 length-point (s .points),
-      faces-size (s .faces),
-    )
 
 solids-size : (ss : List Solid) → length (row solidAnswer ss) ≡ 8 * length ss + 8 * length (solidsFloats ss) + 4 * length (solidsCounts ss) + 4 * length (solidsPlaces ss)
 unfolding row solidsFloats solidsCounts solidsPlaces

@@ -6,13 +6,13 @@ use Prim.Native.Nat.{ℕ}
 use native.Mathlib.Omega.{arith}
 use lib.Dec.{ltb}
 use Rattle.refusal.specs.Outcome.{Outcome, ok, refused, then, walk, numberOf}
+use Rattle.refusal.specs.Laws.{same-ok, then-ok, unless-ok}
 use Rattle.space.specs.declared.Plane.{Plane}
 use Rattle.space.specs.declared.Precision.{Precision}
 use Rattle.space.specs.Shapes.{Face, Cell, Part, nothing, part, corners, allCorners}
 use Rattle.side.specs.Sides.{oppositeOf, sideOf}
-use Rattle.polygon.specs.Members.{All, same-ok, then-ok}
+use Rattle.polygon.specs.Members.{All}
 use Rattle.room.specs.Laws.{all-none, all-snoc}
-use Rattle.room.specs.Steps.{unless-ok}
 use Rattle.edge.specs.Meets.{isPositive}
 use Rattle.clip.specs.Cuts.{clip}
 use Rattle.clip.specs.Theorem.{Corners, cut-below}

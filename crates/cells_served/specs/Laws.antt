@@ -13,7 +13,7 @@ use Rattle.refusal.specs.declared.Verdict.{Verdict}
 use Rattle.refusal.specs.declared.Verdict.the-variants as D
 use Rattle.refusal.specs.Outcome.{refused, then}
 use Rattle.refusal.specs.Laws.{stop, go}
-use Rattle.topology.specs.Chains.{and-true}
+use Rattle.refusal.specs.Tests.{and-true}
 use Rattle.room.specs.Rooms.{cellAt, countsAt}
 use Rattle.room.specs.Steps.{then-then}
 use Rattle.clip.specs.Clips.{Given, Wide}

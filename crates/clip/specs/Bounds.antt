@@ -12,18 +12,18 @@ use lib.Dec.{ltb}
 use lib.Ieee.{Float}
 use borrow.Author.Tests.{ltb-false}
 use Rattle.refusal.specs.Outcome.{Outcome, ok, walk}
+use Rattle.refusal.specs.Laws.{same-ok, then-ok, unless-ok}
 use Rattle.space.specs.declared.Plane.{Plane}
 use Rattle.space.specs.declared.Precision.{Precision}
 use Rattle.space.specs.Shapes.{Face, Cell, Part, nothing, part, corners}
 use Rattle.polygon.specs.Unique.{unique}
-use Rattle.polygon.specs.Members.{same-ok, then-ok}
 use Rattle.hull.specs.Hull.{capOf}
 use Rattle.hull.specs.Laws.{cap-hull}
 use Rattle.hull.specs.Members.{hull-least}
 use Rattle.ring.specs.Rings.{cutRing}
 use Rattle.room.specs.Rooms.{cellFloats, cellCounts}
 use Rattle.room.specs.Laws.{corners-none, corners-snoc, all-none, all-snoc, all-in}
-use Rattle.room.specs.Steps.{unless-ok, walk-keeps}
+use Rattle.room.specs.Steps.{walk-keeps}
 use Rattle.cell.specs.Cells.{isFull, addFace, keepFace, leftCell}
 use Rattle.cell.specs.Laws.{not-full}
 use Rattle.clip.specs.declared.Clipped.{Clipped}

@@ -10,6 +10,7 @@ use lib.ListN.{length}
 use lib.Dec.{ltb, leb}
 use Rattle.refusal.specs.declared.Refusal.{Refusal}
 use Rattle.refusal.specs.Outcome.{Outcome, ok, refused, then, unless, walk}
+use Rattle.refusal.specs.Laws.{same-ok, then-ok, unless-ok}
 use Rattle.lists.specs.Walks.{Pair, pairsTo, cyclic}
 use Rattle.space.specs.declared.Point3.{Point3}
 use Rattle.space.specs.declared.Plane.{Plane}
@@ -26,11 +27,11 @@ use Rattle.edge.specs.declared.Meet.{Meet}
 use Rattle.edge.specs.declared.Meet.the-variants as M
 use Rattle.edge.specs.Meets.{Signs, unseen, noted, isPositive, isNegative, atCorner, heldBack, cornerMeet, crosses, noRatio, between, cutMeet, unlessVague, landed, edgeMeet}
 use Rattle.edge.specs.Laws.{cut-zero, cut-between}
-use Rattle.polygon.specs.Members.{All, same-ok, then-ok, unique-all}
+use Rattle.polygon.specs.Members.{All, unique-all}
 use Rattle.hull.specs.Members.{cap-all}
 use Rattle.room.specs.Rooms.{In}
 use Rattle.room.specs.Laws.{all-none, all-snoc, all-map, all-both, all-in, all-at}
-use Rattle.room.specs.Steps.{unless-ok, walk-keeps, walk-back, walk-runs}
+use Rattle.room.specs.Steps.{walk-keeps, walk-back, walk-runs}
 use Rattle.ring.specs.Rings.{signOne, Ring, pushFace, pushCap, pushBoth, pushed, cutBy, cutEdge, cutRing}
 use Rattle.cell.specs.Cells.{isFull, addFace, keepFace, leftCell}
 use Rattle.clip.specs.Cuts.{signFace, signsOf, Cutting, joined, cutFace, closed, cutFaces, cutCell, asPart, clipBy, clip}

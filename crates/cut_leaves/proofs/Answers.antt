@@ -10,6 +10,7 @@ use lib.Dec.{leb}
 use lib.Ieee.{Float}
 use borrow.Author.Tests.{leb-true}
 use Rattle.refusal.specs.Outcome.{Outcome, ok, refused, unless, numberOf}
+use Rattle.refusal.specs.Tests.{and-true}
 use Rattle.space.specs.declared.Point3.{Point3}
 use Rattle.space.specs.declared.Plane.{Plane}
 use Rattle.space.specs.declared.Precision.{Precision}
@@ -27,7 +28,6 @@ use Rattle.clip.specs.declared.Clipped.the-variants as C
 use Rattle.clip.specs.Cuts.{clip}
 use Rattle.clip.specs.Clips.{Space, Given, Hulls, told, numberOfClipped, Sized, Clips}
 use Rattle.lent.specs.Lent.{numberBy, whereFine}
-use Rattle.lent.specs.Laws.{and-left, and-right}
 use Rattle.cut_leaves.specs.Lending.{cornersTold, countTold, Told, uniqueFits, uniqueLent, hullFits, hullLent, cellFits, workFits, placeFits, partTold, clippedTold, behind, clipFits, Cut}
 use Rattle.cut_leaves.proofs.Guards.{cell-lent}
 
@@ -54,13 +54,13 @@ told-made (refused f) m r d n d′ n′ e a b c = record {
 module _ (s d n : ℕ) (f : Bool) (fits : f ≡ uniqueFits s d n) where
   pub unique-points : f ≡ true → s / 3 ≤ 128
   unfolding uniqueFits
-  unique-points e = leb-true (s / 3) 128 (and-left (leb (s / 3) 128) (leb 384 d && leb 1 n) (sym fits ∙ e))
+  unique-points e = leb-true (s / 3) 128 (and-true (leb (s / 3) 128) (leb 384 d && leb 1 n) (sym fits ∙ e) .0)
 
   pub unique-places : f ≡ true → (384 ≤ d) × (1 ≤ n)
   unfolding uniqueFits
   unique-places e =
-      let r = and-right (leb (s / 3) 128) (leb 384 d && leb 1 n) (sym fits ∙ e) in
-      (leb-true 384 d (and-left (leb 384 d) (leb 1 n) r), leb-true 1 n (and-right (leb 384 d) (leb 1 n) r))
+      let r = and-true (leb (s / 3) 128) (leb 384 d && leb 1 n) (sym fits ∙ e) .1 in
+      (leb-true 384 d (and-true (leb 384 d) (leb 1 n) r .0), leb-true 1 n (and-true (leb 384 d) (leb 1 n) r .1))
 
 module _ (t : Precision) (s d : List Float) (n : List ℕ) (f : Bool) (fits : f ≡ uniqueFits (length s) (length d) (length n)) where
   pub unique-short : f ≡ false → Told (uniqueLent t s (length d) (length n)) 64 d n d n
@@ -81,12 +81,12 @@ module _ (points cap flat order chain d n : ℕ) (f : Bool) (fits : f ≡ hullFi
       let points-front = leb points (cap / 3) && leb points (flat / 2) in
       let points-lists = leb points order && leb points (chain / 2) in
       let roomy = leb 384 d && leb 1 n in
-      let first = and-left points-front (points-lists && roomy) (sym fits ∙ e) in
-      let lists = and-left points-lists roomy (and-right points-front (points-lists && roomy) (sym fits ∙ e)) in
-      let a = leb-true points (cap / 3) (and-left (leb points (cap / 3)) (leb points (flat / 2)) first) in
-      let b = leb-true points (flat / 2) (and-right (leb points (cap / 3)) (leb points (flat / 2)) first) in
-      let c = leb-true points order (and-left (leb points order) (leb points (chain / 2)) lists) in
-      let g = leb-true points (chain / 2) (and-right (leb points order) (leb points (chain / 2)) lists) in
+      let first = and-true points-front (points-lists && roomy) (sym fits ∙ e) .0 in
+      let lists = and-true points-lists roomy (and-true points-front (points-lists && roomy) (sym fits ∙ e) .1) .0 in
+      let a = leb-true points (cap / 3) (and-true (leb points (cap / 3)) (leb points (flat / 2)) first .0) in
+      let b = leb-true points (flat / 2) (and-true (leb points (cap / 3)) (leb points (flat / 2)) first .1) in
+      let c = leb-true points order (and-true (leb points order) (leb points (chain / 2)) lists .0) in
+      let g = leb-true points (chain / 2) (and-true (leb points order) (leb points (chain / 2)) lists .1) in
       (omega (arith, a), omega (arith, b), c, omega (arith, g))
 
   pub hull-places : f ≡ true → (384 ≤ d) × (1 ≤ n)
@@ -95,8 +95,8 @@ module _ (points cap flat order chain d n : ℕ) (f : Bool) (fits : f ≡ hullFi
       let points-front = leb points (cap / 3) && leb points (flat / 2) in
       let points-lists = leb points order && leb points (chain / 2) in
       let roomy = leb 384 d && leb 1 n in
-      let r = and-right points-lists roomy (and-right points-front (points-lists && roomy) (sym fits ∙ e)) in
-      (leb-true 384 d (and-left (leb 384 d) (leb 1 n) r), leb-true 1 n (and-right (leb 384 d) (leb 1 n) r))
+      let r = and-true points-lists roomy (and-true points-front (points-lists && roomy) (sym fits ∙ e) .1) .1 in
+      (leb-true 384 d (and-true (leb 384 d) (leb 1 n) r .0), leb-true 1 n (and-true (leb 384 d) (leb 1 n) r .1))
 
 module _ (t : Precision) (w : Plane) (cap : List Float) (points flat order chain : ℕ) (d : List Float) (n : List ℕ) (f : Bool)
     (fits : f ≡ hullFits points (length cap) flat order chain (length d) (length n)) where
@@ -150,8 +150,8 @@ pub clip-told : (limit d at n k s : ℕ) (cf wf pf : Bool) → pf ≡ placeFits 
 unfolding placeFits
 clip-told limit d at n k s cf wf pf ep e =
     let slots = leb (k + 128) n in
-    let p = sym ep ∙ and-right wf pf (and-right cf (wf && pf) e) in
-    leb-true 2 s (and-right slots (leb 2 s) (and-right (leb (at + 1536 + 3 * limit) d) (slots && leb 2 s) p))
+    let p = sym ep ∙ and-true wf pf (and-true cf (wf && pf) e .1) .1 in
+    leb-true 2 s (and-true slots (leb 2 s) (and-true (leb (at + 1536 + 3 * limit) d) (slots && leb 2 s) p .1) .1)
 
 module _ (limit : ℕ) (src : List Float) (from : ℕ) (ns : List ℕ) (j faces : ℕ) (d : List Float) (at : ℕ) (n : List ℕ) (k : ℕ)
     (face cap flat : List Float) (order chain s : List ℕ) (cf wf pf : Bool)
@@ -176,13 +176,13 @@ module _ (limit : ℕ) (src : List Float) (from : ℕ) (ns : List ℕ) (j faces 
 
   -- the three tests
   given-yes : (cf && (wf && pf)) ≡ true → cellFits (length src) from ns j faces ≡ true
-  given-yes e = sym ec ∙ and-left cf (wf && pf) e
+  given-yes e = sym ec ∙ and-true cf (wf && pf) e .0
 
   work-yes : (cf && (wf && pf)) ≡ true → workFits (length face) (length cap) (length flat) (length order) (length chain) ≡ true
-  work-yes e = sym ew ∙ and-left wf pf (and-right cf (wf && pf) e)
+  work-yes e = sym ew ∙ and-true wf pf (and-true cf (wf && pf) e .1) .0
 
   place-yes : (cf && (wf && pf)) ≡ true → placeFits limit (length d) at (length n) k (length s) ≡ true
-  place-yes e = sym ep ∙ and-right wf pf (and-right cf (wf && pf) e)
+  place-yes e = sym ep ∙ and-true wf pf (and-true cf (wf && pf) e .1) .1
 
   abbrev place : Bool
   place = leb (at + 1536 + 3 * limit) (length d)
@@ -194,25 +194,25 @@ module _ (limit : ℕ) (src : List Float) (from : ℕ) (ns : List ℕ) (j faces 
   unfolding workFits placeFits
   space-lent e =
       let front = leb 384 (length face) && leb 3072 (length cap) in
-      let w = and-left front ((leb 2048 (length flat) && leb 1024 (length order)) && leb 2048 (length chain)) (work-yes e) in
-      let more = and-right place (slots && leb 2 (length s)) (place-yes e) in
+      let w = and-true front ((leb 2048 (length flat) && leb 1024 (length order)) && leb 2048 (length chain)) (work-yes e) .0 in
+      let more = and-true place (slots && leb 2 (length s)) (place-yes e) .1 in
       record {
-        face-fits = leb-true 384 (length face) (and-left (leb 384 (length face)) (leb 3072 (length cap)) w);
-        cap-fits = leb-true 3072 (length cap) (and-right (leb 384 (length face)) (leb 3072 (length cap)) w);
-        place = leb-true (at + 1536 + 3 * limit) (length d) (and-left place (slots && leb 2 (length s)) (place-yes e));
-        slots = leb-true (k + 128) (length n) (and-left slots (leb 2 (length s)) more);
+        face-fits = leb-true 384 (length face) (and-true (leb 384 (length face)) (leb 3072 (length cap)) w .0);
+        cap-fits = leb-true 3072 (length cap) (and-true (leb 384 (length face)) (leb 3072 (length cap)) w .1);
+        place = leb-true (at + 1536 + 3 * limit) (length d) (and-true place (slots && leb 2 (length s)) (place-yes e) .0);
+        slots = leb-true (k + 128) (length n) (and-true slots (leb 2 (length s)) more .0);
       }
 
   hulls-lent : (cf && (wf && pf)) ≡ true → Hulls flat order chain
   unfolding workFits
   hulls-lent e =
       let lists = leb 2048 (length flat) && leb 1024 (length order) in
-      let back = and-right (leb 384 (length face) && leb 3072 (length cap)) (lists && leb 2048 (length chain)) (work-yes e) in
-      let both = and-left lists (leb 2048 (length chain)) back in
+      let back = and-true (leb 384 (length face) && leb 3072 (length cap)) (lists && leb 2048 (length chain)) (work-yes e) .1 in
+      let both = and-true lists (leb 2048 (length chain)) back .0 in
       record {
-        flat-fits = leb-true 2048 (length flat) (and-left (leb 2048 (length flat)) (leb 1024 (length order)) both);
-        order-fits = leb-true 1024 (length order) (and-right (leb 2048 (length flat)) (leb 1024 (length order)) both);
-        chain-fits = leb-true 2048 (length chain) (and-right lists (leb 2048 (length chain)) back);
+        flat-fits = leb-true 2048 (length flat) (and-true (leb 2048 (length flat)) (leb 1024 (length order)) both .0);
+        order-fits = leb-true 1024 (length order) (and-true (leb 2048 (length flat)) (leb 1024 (length order)) both .1);
+        chain-fits = leb-true 2048 (length chain) (and-true lists (leb 2048 (length chain)) back .1);
       }
 
   pub clip-lent : (cf && (wf && pf)) ≡ true → Given src from ns j faces × Space limit face cap d at n k × Hulls flat order chain

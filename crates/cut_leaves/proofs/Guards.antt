@@ -7,9 +7,9 @@ use native.Mathlib.Omega.{arith}
 use lib.ListN.{length, drop, getD}
 use lib.Dec.{leb}
 use borrow.Author.Tests.{leb-true, le-leb, lt-leb}
+use Rattle.refusal.specs.Tests.{and-true}
 use Rattle.room.specs.Rooms.{countsAt, Within}
 use Rattle.room.specs.Laws.{next-count, counts-done}
-use Rattle.lent.specs.Laws.{and-left, and-right}
 use Rattle.cut_leaves.specs.Lending.{withinFits, cellFits}
 
 -- ---- places
@@ -100,10 +100,10 @@ unfolding withinFits Within
 within-is [] at m h e = h
 within-is (n ∷ ns) at m h e =
     let rest = withinFits ns (at + (12 + 3 * n)) m in
-    let both = and-left (leb n 128 && leb (at + (12 + 3 * n)) m) rest e in
+    let both = and-true (leb n 128 && leb (at + (12 + 3 * n)) m) rest e .0 in
     let d : at + (12 + 3 * n) ≡ at + 12 + 3 * n = omega arith in
-    let go : Within ns (at + (12 + 3 * n)) m = within-is ns (at + (12 + 3 * n)) m (leb-true (at + (12 + 3 * n)) m (and-right (leb n 128) (leb (at + (12 + 3 * n)) m) both)) (and-right (leb n 128 && leb (at + (12 + 3 * n)) m) rest e) in
-    (leb-true n 128 (and-left (leb n 128) (leb (at + (12 + 3 * n)) m) both), rw d at go)
+    let go : Within ns (at + (12 + 3 * n)) m = within-is ns (at + (12 + 3 * n)) m (leb-true (at + (12 + 3 * n)) m (and-true (leb n 128) (leb (at + (12 + 3 * n)) m) both .1)) (and-true (leb n 128 && leb (at + (12 + 3 * n)) m) rest e .1) in
+    (leb-true n 128 (and-true (leb n 128) (leb (at + (12 + 3 * n)) m) both .0), rw d at go)
 
 pub record CellLent (m from : ℕ) (ns : List ℕ) (j faces : ℕ) : Type 0 where
   pub listed : j + faces ≤ length ns
@@ -113,8 +113,8 @@ pub cell-lent : (m from : ℕ) (ns : List ℕ) (j faces : ℕ) → cellFits m fr
 unfolding cellFits
 cell-lent m from ns j faces e =
     let rest = withinFits (countsAt ns j faces) from m in
-    let back = and-right (leb (j + faces) (length ns)) (leb from m && rest) e in
+    let back = and-true (leb (j + faces) (length ns)) (leb from m && rest) e .1 in
     record {
-      listed = leb-true (j + faces) (length ns) (and-left (leb (j + faces) (length ns)) (leb from m && rest) e);
-      within = within-is (countsAt ns j faces) from m (leb-true from m (and-left (leb from m) rest back)) (and-right (leb from m) rest back);
+      listed = leb-true (j + faces) (length ns) (and-true (leb (j + faces) (length ns)) (leb from m && rest) e .0);
+      within = within-is (countsAt ns j faces) from m (leb-true from m (and-true (leb from m) rest back .0)) (and-true (leb from m) rest back .1);
     }

@@ -11,6 +11,7 @@ use Rattle.refusal.specs.declared.Refusal.{Refusal}
 use Rattle.refusal.specs.declared.Verdict.{Verdict}
 use Rattle.refusal.specs.declared.Verdict.the-variants.{Fine, Refused}
 use Rattle.refusal.specs.Outcome.{Outcome, ok, refused, refuse, refusalOf, unless, walk, heard}
+use Rattle.refusal.specs.Laws.{never-fine}
 use Rattle.sums.specs.Sum.{less, less-cases}
 use Rattle.sums.specs.Keys.{order, users, pairs}
 use Rattle.sums.specs.SizeLaws.{Sized, Fresh, at, one-users, two-users, more-users}
@@ -29,9 +30,6 @@ pub record Edged (rs : List F.Run) (d : List ℕ) (m : Paired) : Type 0 where
   pub told : heard (m .verdict) tt ≡ F.checkEdges rs
   pub paired : m .verdict ≡ Fine → take (2 * m .pairs) d ≡ endsOf (F.edges rs)
   pub half : m .verdict ≡ Fine → 2 * m .pairs ≤ length d
-
-never : {A : Type 0} (r : Refusal) → Refused r ≡ Fine → A
-never r e = let z : _≡_ {A = ℕ} 0 1 = cc in absurd (omega arith)
 
 abbrev pub faceOf : List F.Run → ℕ → ℕ
 faceOf rs x = F.runAt rs x .face
@@ -84,11 +82,11 @@ module _ (rs : List F.Run) (ks : List (List ℕ)) where
 
       paired : (v : Verdict) → Standing d v (m .at) (m .pairs) → v ≡ Fine → take (2 * m .pairs) d ≡ endsOf (F.edges rs)
       paired Fine w e = unfold Standing F.edges in (judged-pairs (F.judgeEdge rs) (faceOf rs) ks d (m .at) (m .pairs) w h ∙ ap (λ ks. endsOf (map (λ p. (faceOf rs (p .0), faceOf rs (p .1))) (pairs ks))) q)
-      paired (Refused r) w e = never r e
+      paired (Refused r) w e = never-fine e
 
       half : (v : Verdict) → Standing d v (m .at) (m .pairs) → v ≡ Fine → 2 * m .pairs ≤ length d
       half Fine w e = unfold Standing in omega (arith, w .half, w .upto, w .room)
-      half (Refused r) w e = never r e
+      half (Refused r) w e = never-fine e
 
 -- ---- in the words of the code
 

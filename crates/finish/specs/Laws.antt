@@ -11,27 +11,25 @@ use Rattle.refusal.specs.declared.Refusal.{Refusal}
 use Rattle.refusal.specs.declared.Verdict.{Verdict}
 use Rattle.refusal.specs.declared.Verdict.the-variants as D
 use Rattle.refusal.specs.Outcome.{Outcome, ok, refused, then, each, heard, verdictOf}
-use Rattle.refusal.specs.Laws.{each-go, each-stop, each-end}
+use Rattle.refusal.specs.Laws.{each-go, each-stop, each-end, same-ok, never-ok, then-ok}
 use Rattle.space.specs.declared.Precision.{Precision}
 use Rattle.space.specs.Shapes.{Cell, Solid, corners, allCorners}
 use Rattle.polygon.specs.Memory.{floatsOf}
-use Rattle.polygon.specs.Members.{same-ok, never-ok, then-ok}
 use Rattle.room.specs.Rooms.{cellFloats, cellCounts, cellAt, countsAt, Within}
-use Rattle.room.specs.Laws.{sets-append, next-count, counts-done, length-floatsOf, length-cellFloats, length-cellCounts}
+use Rattle.room.specs.Laws.{sets-append, next-count, counts-done, length-floatsOf, length-cellFloats, length-cellCounts, cell-counts}
 use Rattle.sums.specs.Sum.{sum}
 use Rattle.stack.specs.declared.Stack.{Stack}
 use Rattle.stack.specs.Stacks.{cellsFloats, cellsCounts, cellsSizes, cellsAt, stackOf, listAt, Lies, Holds, Front}
-use Rattle.stack.specs.Laws.{Numbers, numbers, counts-snoc}
+use Rattle.stack.specs.Laws.{Numbers, numbers, counts-snoc, all-corners-cons, sizes-snoc}
 use Rattle.stack.specs.Steps.{Standing, standing}
 use Rattle.indexed.specs.declared.Counted.{Counted}
 use Rattle.indexed.specs.declared.Counted.the-variants as C
 use Rattle.indexed.specs.Indexed.{indexed}
 use Rattle.indexed.specs.Stored.{flat, Stored, Fits}
-use Rattle.offset.specs.Indexes.{cell-counts}
 use Rattle.built.specs.Built.{built, Bench}
 use Rattle.built.specs.Laws.{built-lengths}
 use Rattle.finish.specs.Finish.{finish, total, solidsFloats, solidsPlaces, solidsCounts, solidsSizes, solidsMarks, solidsAt, solidsTold, Lain, Finished, Holding, Shelf, Space, Behind}
-use Rattle.finish.specs.Lists.{total-cell, total-flat, floats-both, counts-both, sizes-both, corners-both, one-floats, one-counts, one-corners, here-size, here-seat, here-listed, here-counts, here-cell, here-room, here-within, here-corners, here-wide, none, sizes-one, points-more, places-more, faces-more, numbers-more, marks-more, length-marks, solids-stored}
+use Rattle.finish.specs.Lists.{total-cell, total-flat, floats-both, counts-both, sizes-both, corners-both, one-floats, one-counts, here-size, here-seat, here-listed, here-counts, here-cell, here-room, here-within, here-corners, here-wide, none, points-more, places-more, faces-more, numbers-more, marks-more, length-marks, solids-stored}
 
 -- ---- how many corners n faces have: c so far, of j faces
 
@@ -360,9 +358,9 @@ module _ {t : Precision} {cs : List Cell} {s₀ : List Float} {i₀ m₀ : List 
           upto = length-append (I .done) (A .cell ∷ []) ∙ ap (λ l. l + 1) (I .upto);
           floats = omega (arith, ap length (floats-both (I .done) (A .cell ∷ [])), length-append (cellsFloats (I .done)) (cellsFloats (A .cell ∷ [])), ap length (one-floats (A .cell) []), length-append (cellFloats (A .cell)) (cellsFloats []), length-cellFloats (A .cell), I .floats, u, n, none .0);
           faces = omega (arith, ap length (counts-both (I .done) (A .cell ∷ [])), length-append (cellsCounts (I .done)) (cellsCounts (A .cell ∷ [])), ap length (one-counts (A .cell) []), length-append (cellCounts (A .cell)) (cellsCounts []), length-cellCounts (A .cell), I .faces, n, none .1);
-          held = omega (arith, corners-both (I .done) (A .cell ∷ []), one-corners (A .cell) [], I .held, u, none .2);
+          held = omega (arith, corners-both (I .done) (A .cell ∷ []), all-corners-cons (A .cell) [], I .held, u, none .2);
           counts = faces-more (I .solids) b ∙ ap₂ (λ v y. v ++ y) (I .counts) fs ∙ sym (counts-snoc (I .done) (A .cell));
-          sizes = numbers-more (I .solids) b ∙ ap₂ (λ v y. v ++ (y ∷ [])) (I .sizes) nc ∙ sym (sizes-one (I .done) (A .cell));
+          sizes = numbers-more (I .solids) b ∙ ap₂ (λ v y. v ++ (y ∷ [])) (I .sizes) nc ∙ sym (sizes-snoc (I .done) (A .cell));
           many = length-append (I .solids) (b ∷ []) ∙ ap (λ v. v + 1) (I .many) ∙ sym (length-append (I .done) (A .cell ∷ []));
           left = sym (each-go (built t) (I .solids) (A .cell) (A .after) b gone) ∙ ap (each (built t) (I .solids)) (sym (A .first)) ∙ I .left;
           points = more s₀ s s′ (solidsFloats (I .solids)) (floatsOf (b .points)) _ p (I .points) (I .dots) (x .3) (points-more (I .solids) b);

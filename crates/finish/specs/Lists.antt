@@ -15,7 +15,7 @@ use Rattle.room.specs.Rooms.{cellFloats, cellCounts, cellAt, countsAt, Within}
 use Rattle.room.specs.Laws.{points-stored, length-floatsOf, length-cellFloats, length-cellCounts, cell-back, within-stored, corners-cons, corners-none}
 use Rattle.sums.specs.Sum.{sum}
 use Rattle.stack.specs.Stacks.{cellsFloats, cellsCounts, cellsSizes, Sound, Lies}
-use Rattle.stack.specs.Laws.{all-corners-from, wide-corners}
+use Rattle.stack.specs.Laws.{all-corners-from, wide-corners, length-cellsSizes, all-corners-cons}
 use Rattle.indexed.specs.Stored.{flat}
 use Rattle.solids.specs.Frames.{facesAt}
 use Rattle.solid_check.specs.Check.{solidAt}
@@ -55,11 +55,6 @@ unfolding allCorners
 corners-both [] b = omega arith
 corners-both (c ∷ a) b = omega (arith, corners-both a b, all-corners-from (0 + corners 0 c) (a ++ b), all-corners-from (0 + corners 0 c) a)
 
-pub length-sizes : (cs : List Cell) → length (cellsSizes cs) ≡ length cs
-unfolding cellsSizes
-length-sizes [] = refl
-length-sizes (c ∷ cs) = ap suc (length-sizes cs)
-
 pub one-floats : (c : Cell) (b : List Cell) → cellsFloats (c ∷ b) ≡ cellFloats c ++ cellsFloats b
 unfolding cellsFloats
 one-floats c b = refl
@@ -67,10 +62,6 @@ one-floats c b = refl
 pub one-counts : (c : Cell) (b : List Cell) → cellsCounts (c ∷ b) ≡ cellCounts c ++ cellsCounts b
 unfolding cellsCounts
 one-counts c b = refl
-
-pub one-corners : (c : Cell) (b : List Cell) → allCorners 0 (c ∷ b) ≡ corners 0 c + allCorners 0 b
-unfolding allCorners
-one-corners c b = all-corners-from (0 + corners 0 c) b ∙ omega arith
 
 sound-at : (a : List Cell) (c : Cell) (b : List Cell) → All Sound (a ++ (c ∷ b)) → Sound c
 unfolding All
@@ -97,10 +88,10 @@ module _ (room : ℕ) (a : List Cell) (c : Cell) (b : List Cell) (d : List Float
   all-sizes = L .sizes .is ∙ ap (λ l. l ++ L .sizes .tail) (sizes-both a (c ∷ b)) ∙ append-assoc (cellsSizes a) (length c ∷ cellsSizes b) (L .sizes .tail)
 
   pub here-size : (i : ℕ) → length a ≡ i → getD z i 0 ≡ length c
-  here-size i e = ap (λ l. getD l i 0) all-sizes ∙ getD-at (cellsSizes a) (length c) (cellsSizes b ++ L .sizes .tail) 0 i (length-sizes a ∙ e)
+  here-size i e = ap (λ l. getD l i 0) all-sizes ∙ getD-at (cellsSizes a) (length c) (cellsSizes b ++ L .sizes .tail) 0 i (length-cellsSizes a ∙ e)
 
   pub here-seat : (i : ℕ) → length a ≡ i → i < length z
-  here-seat i e = omega (arith, e, ap length all-sizes, length-append (cellsSizes a) (length c ∷ (cellsSizes b ++ L .sizes .tail)), length-sizes a)
+  here-seat i e = omega (arith, e, ap length all-sizes, length-append (cellsSizes a) (length c ∷ (cellsSizes b ++ L .sizes .tail)), length-cellsSizes a)
 
   module _ (f : ℕ) (e : length (cellsCounts a) ≡ f) where
     pub here-listed : f + length c ≤ length n
@@ -133,7 +124,7 @@ module _ (room : ℕ) (a : List Cell) (c : Cell) (b : List Cell) (d : List Float
           subst (λ l. Within l o (length d)) (sym here-counts) (within-stored c o (length d) (sound-at a c b (L .sound) .small) (omega (arith, here-room, length-cellFloats c)))
 
   pub here-corners : allCorners 0 a + corners 0 c ≤ room
-  here-corners = omega (arith, L .fit, corners-both a (c ∷ b), one-corners c b)
+  here-corners = omega (arith, L .fit, corners-both a (c ∷ b), all-corners-cons c b)
 
   pub here-wide : 3 * length c ≤ corners 0 c
   here-wide = wide-corners c (sound-at a c b (L .sound) .wide)
@@ -141,10 +132,6 @@ module _ (room : ℕ) (a : List Cell) (c : Cell) (b : List Cell) (d : List Float
 pub none : (length (cellsFloats []) ≡ 0) × (length (cellsCounts []) ≡ 0) × (allCorners 0 [] ≡ 0)
 unfolding cellsFloats cellsCounts allCorners
 none = (refl, refl, refl)
-
-pub sizes-one : (cs : List Cell) (c : Cell) → cellsSizes (cs ++ (c ∷ [])) ≡ cellsSizes cs ++ (length c ∷ [])
-unfolding cellsSizes
-sizes-one cs c = sizes-both cs (c ∷ [])
 
 -- ---- two lists of solids, one behind the other
 

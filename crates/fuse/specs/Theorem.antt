@@ -1,7 +1,7 @@
 -- What an answer of `fuse` tells: demand 3 of its bodies, and that its slices name facets of the arrangement.
 use mathlib.Core.Path.{_≡_, refl, sym, ap, _∙_, subst}
 use mathlib.Core.List.{List, [], _∷_, map}
-use Prim.Native.Nat.{ℕ, zero, suc, _+_, _≤_, _<_}
+use Prim.Native.Nat.{ℕ, zero, suc, _≤_, _<_}
 use native.Mathlib.Omega.{arith}
 use lib.ListN.{length, getD, length-append, length-map}
 use Rattle.refusal.specs.declared.Verdict.{Verdict}
@@ -11,8 +11,8 @@ use Rattle.sums.specs.Sum.{sum, hit, Each}
 use Rattle.sums.specs.Keys.{put, keep}
 use Rattle.sums.specs.KeyLaws.{sum-append, all-each, each-all, each-map, each-imp, each-append, lone-in}
 use Rattle.sums.specs.Components.{components}
-use Rattle.sums.specs.ComponentLaws.{Ascend, Components, components-found}
-use Rattle.groups.specs.Groups.{joined}
+use Rattle.sums.specs.ComponentLaws.{Components, components-found, none-empty}
+use Rattle.groups.specs.Groups.{joined, sum-joined}
 use Rattle.bodies.specs.Fusing.{Facet, Sense, Bodies, keys, facesOf, runs, neighbors, shellsOf, bodyOf, materials, fuse}
 use Rattle.bodies.specs.Passed.{made-each}
 use Rattle.bodies.specs.ListLaws.{Valid, size, answered, listed-weight, isOutward, isInward, outOf, inOf, BodyMade, body-made, edges-graph}
@@ -40,19 +40,10 @@ pub record Sound (volume : List ℕ → Outcome Sense) (fs : List Facet) (n : �
   pub inside : Each (λ i. i < length fs) (joined (shellsIn bodies))
   pub full : Each Full bodies
 
-sum-joined : (f : ℕ → ℕ) (gs : List (List ℕ)) → sum f (joined gs) ≡ sum (sum f) gs
-unfolding joined sum
-sum-joined f [] = refl
-sum-joined f (g ∷ gs) = sum-append f g (joined gs) ∙ ap (λ n. sum f g + n) (sum-joined f gs)
-
 sum-shells : (f : ℕ → ℕ) (bs : Bodies) → sum f (joined (shellsIn bs)) ≡ sum (sum (sum f)) bs
 unfolding shellsIn sum
 sum-shells f [] = unfold joined in refl
 sum-shells f (b ∷ bs) = ap (sum f) (joined-both b (shellsIn bs)) ∙ sum-append f (joined b) (joined (shellsIn bs)) ∙ omega (arith, sum-joined f b, sum-shells f bs)
-
-none-empty : (a : ℕ) (gs : List (List ℕ)) → Ascend a gs → Each (λ g. 0 < length g) gs
-none-empty a [] w = tt
-none-empty a (g ∷ gs) w = (omega (arith, ap length (w .2)), none-empty (suc (w .0)) gs (w .5))
 
 each-put : {A : Type 0} (P : A → Type 0) (t : ℕ) (x : A) (l : List A) → P x → Each P l → Each P (put t x l)
 unfolding put

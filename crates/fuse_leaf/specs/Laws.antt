@@ -10,8 +10,8 @@ use lib.Seq.{sets}
 use lib.Ieee.{Float}
 use borrow.Author.Tests.{le-leb, lt-leb}
 use Rattle.refusal.specs.Outcome.{Outcome, ok, refused, then, unless, numberOf}
+use Rattle.refusal.specs.Laws.{same-ok, never-ok}
 use Rattle.space.specs.declared.Precision.{Precision}
-use Rattle.polygon.specs.Members.{never-ok, same-ok}
 use Rattle.lent.specs.Lent.{numberBy}
 use Rattle.stack.specs.declared.Stack.{Stack}
 use Rattle.stack.specs.Stacks.{listAt, Listed}

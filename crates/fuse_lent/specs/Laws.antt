@@ -5,7 +5,7 @@ use Prim.Native.Nat.{ℕ, _+_, _*_, _/_, _≤_, _<_}
 use native.Mathlib.Omega.{arith}
 use lib.Dec.{leb, ltb}
 use borrow.Author.Tests.{leb-true, ltb-true, lt-leb, le-leb, lt-ltb}
-use Rattle.topology.specs.Chains.{and-true}
+use Rattle.refusal.specs.Tests.{and-true}
 use Rattle.fuse_lent.specs.Lent.{Lent, lengthy, lends}
 
 module _ (room answer rest spare dst held slots counts sizes seats lengths owners cells cuts runs keys begins ord ends marks out many shells : ℕ) where

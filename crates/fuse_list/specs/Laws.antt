@@ -1,29 +1,30 @@
 -- An arrangement that was laid out is one that fusing takes, and its bodies are those of the list.
 use mathlib.Core.Path.{_≡_, refl, sym, ap, ap₂, _∙_, subst}
-use mathlib.Core.List.{List, [], _∷_, _++_, append-nil}
-use Prim.Native.Nat.{ℕ, suc, _+_, _*_, _≤_, _<_}
+use mathlib.Core.List.{List, [], _++_, append-nil}
+use Prim.Native.Nat.{ℕ, _+_, _*_, _≤_, _<_}
 use native.Mathlib.Omega.{arith}
 use lib.ListN.{length, take, drop, getD}
-use lib.Seq.{sets, sets-eq, length-sets, length-take-le, length-slice, take-at, drop-nil, drop-length, getD-take}
+use lib.Seq.{sets, sets-eq, length-sets, length-take-le, length-slice, drop-nil, drop-length, getD-take}
 use lib.Ieee.{Float}
 use Rattle.refusal.specs.declared.Refusal.{Refusal}
 use Rattle.refusal.specs.declared.Verdict.the-variants.{Fine, Refused}
 use Rattle.refusal.specs.Outcome.{Outcome, ok, refused, then, heard}
-use Rattle.refusal.specs.Laws.{stop, go}
+use Rattle.refusal.specs.Laws.{stop, go, same-ok, then-ok}
+use Rattle.lists.specs.Laws.{front-stored}
 use Rattle.space.specs.declared.Precision.{Precision}
 use Rattle.space.specs.Shapes.{Cell, corners}
 use Rattle.polygon.specs.Memory.{floatsOf}
-use Rattle.polygon.specs.Members.{All, same-ok, then-ok}
+use Rattle.polygon.specs.Members.{All}
 use Rattle.room.specs.Rooms.{cellAt, countsAt}
 use Rattle.room.specs.Laws.{length-floatsOf}
 use Rattle.indexed.specs.Stored.{flat}
 use Rattle.merge.specs.Merge.{merge}
 use Rattle.arrange.specs.Arrange.{conformAll, arrange}
 use Rattle.stack.specs.declared.Stack.{Stack}
-use Rattle.stack.specs.Stacks.{cellsAt, stackOf, listAt, Sound, Holds}
-use Rattle.stack.specs.Laws.{numbers}
+use Rattle.stack.specs.Stacks.{stackOf, listAt, Sound, Holds}
+use Rattle.stack.specs.Laws.{numbers, list-heard}
 use Rattle.keys.specs.Rows.{Starts, row, rows, row-at}
-use Rattle.groups.specs.Groups.{bounds, Grouped}
+use Rattle.groups.specs.Groups.{bounds, Grouped, length-bounds}
 use Rattle.fusing.specs.Groups.{grouped-starts, grouped-rows}
 use Rattle.fusing.specs.Bench.{Cycles}
 use Rattle.bodies.specs.Fusing.{fuse}
@@ -40,18 +41,10 @@ use Rattle.fused.specs.Bodies.{fuseIn}
 use Rattle.fused.specs.Laws.{fuse-is}
 use Rattle.fuse_list.specs.Lists.{bodiesOf, fuseAt, Ready, Told}
 
-front : {A : Type 0} (l s : List A) (m : ℕ) → m ≡ length l → length l ≤ length s → take m (sets s 0 l) ≡ l
-front l s m e h = ap (take m) (sets-eq l s 0 (omega arith)) ∙ take-at l (drop (0 + length l) s) m (sym e)
-
 over : {A : Type 0} (l : List A) → sets l 0 l ≡ l
 over l =
     let z : 0 + length l ≡ length l = omega arith in
     sets-eq l l 0 (omega arith) ∙ ap (λ k. l ++ drop k l) z ∙ ap (λ r. l ++ r) (drop-length l) ∙ append-nil l
-
-length-bounds : (a : ℕ) (fs : List (List ℕ)) → length (bounds a fs) ≡ suc (length fs)
-unfolding bounds
-length-bounds a [] = refl
-length-bounds a (f ∷ fs) = ap suc (length-bounds (a + length f) fs)
 
 -- ---- the slices' fronts are the arrangement
 
@@ -63,13 +56,13 @@ module _ {o : Outcome Arrangement} {p₀ : List Float} {c₀ s₀ w₀ : List �
   points-many = ap (λ x. x .points) (L .is ∙ ap laidOf e)
 
   pub points-are : take (3 * y .points) p ≡ floatsOf (a .points)
-  points-are = ap (take (3 * y .points)) (L .points a e) ∙ front (floatsOf (a .points)) p₀ (3 * y .points) (omega (arith, points-many, length-floatsOf (a .points))) (omega (arith, length-floatsOf (a .points), few, points))
+  points-are = ap (take (3 * y .points)) (L .points a e) ∙ front-stored (floatsOf (a .points)) p₀ (3 * y .points) (omega (arith, points-many, length-floatsOf (a .points))) (omega (arith, length-floatsOf (a .points), few, points))
 
   pub starts-are : take (y .facets + 1) s ≡ bounds 0 (a .cycles)
-  starts-are = ap (take (y .facets + 1)) (L .starts a e) ∙ front (bounds 0 (a .cycles)) s₀ (y .facets + 1) (omega (arith, facets-many L e G cycles starts, length-bounds 0 (a .cycles))) (omega (arith, length-bounds 0 (a .cycles), G .many, starts))
+  starts-are = ap (take (y .facets + 1)) (L .starts a e) ∙ front-stored (bounds 0 (a .cycles)) s₀ (y .facets + 1) (omega (arith, facets-many L e G cycles starts, length-bounds 0 (a .cycles))) (omega (arith, length-bounds 0 (a .cycles), G .many, starts))
 
   pub owners-are : take (y .facets) w ≡ a .owners
-  owners-are = ap (take (y .facets)) (L .owners a e) ∙ front (a .owners) w₀ (y .facets) (omega (arith, facets-many L e G cycles starts, G .owned)) (omega (arith, G .owned, G .many, owners))
+  owners-are = ap (take (y .facets)) (L .owners a e) ∙ front-stored (a .owners) w₀ (y .facets) (omega (arith, facets-many L e G cycles starts, G .owned)) (omega (arith, G .owned, G .many, owners))
 
   -- the points alone
   exact : Laid o (floatsOf (a .points)) c₀ s₀ w₀ (take (3 * y .points) p) c s w y
@@ -170,10 +163,6 @@ points-corners t room cs a e =
     omega (arith, merge-most t (facesOf cs) (u .0) (u .1), ap length g, ap length h)
 
 module _ {room : ℕ} {k : Stack} {d : List Float} {n z : List ℕ} (H : Holds room k d n z) where
-  heard-list : k .verdict ≡ Fine → listAt k d n z ≡ ok (cellsAt d 0 n (take (k .cells) z))
-  unfolding listAt heard
-  heard-list v = ap (λ x. heard x (cellsAt d 0 n (take (k .cells) z))) v
-
   list-fine : (cs : List Cell) → listAt k d n z ≡ ok cs → k .verdict ≡ Fine
   unfolding stackOf
   list-fine cs e = ap (λ x. x .verdict) (H .is ∙ ap stackOf e)
@@ -186,7 +175,7 @@ module _ {room : ℕ} {k : Stack} {d : List Float} {n z : List ℕ} (H : Holds r
   pub list-faces : (cs : List Cell) → listAt k d n z ≡ ok cs → Facing room (k .faces) d n × (cellAt d 0 (countsAt n 0 (k .faces)) ≡ facesOf cs)
   list-faces cs e =
       let S′ = list-stands H (list-fine cs e) in
-      (faces-facing S′, faces-read S′ ∙ ap facesOf (same-ok (sym (heard-list (list-fine cs e)) ∙ e)))
+      (faces-facing S′, faces-read S′ ∙ ap facesOf (same-ok (sym (list-heard k d n z (list-fine cs e)) ∙ e)))
 
   pub list-corners : (cs : List Cell) → listAt k d n z ≡ ok cs → corners 0 (facesOf cs) ≤ room
   list-corners cs e = let q = list-faces cs e in omega (arith, q .0 .fit, ap (corners 0) (q .1))

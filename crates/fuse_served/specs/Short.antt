@@ -5,9 +5,9 @@ use Prim.Native.Nat.{ℕ, _*_, _≤_}
 use native.Mathlib.Omega.{arith}
 use lib.ListN.{length}
 use Rattle.refusal.specs.Outcome.{Outcome, ok, then}
+use Rattle.refusal.specs.Laws.{same-ok, then-ok}
 use Rattle.space.specs.declared.Precision.{Precision}
 use Rattle.space.specs.Shapes.{Cell}
-use Rattle.polygon.specs.Members.{same-ok, then-ok}
 use Rattle.clip.specs.Clips.{Wide}
 use Rattle.job.specs.declared.Operation.{Operation}
 use Rattle.pieces.specs.Pieces.{piecesOf}

@@ -5,13 +5,14 @@ use Prim.Native.Nat.{ℕ}
 use lib.ListN.{length}
 use lib.Dec.{ltb}
 use Rattle.refusal.specs.Outcome.{ok, walk}
+use Rattle.refusal.specs.Laws.{same-ok, then-ok, unless-ok}
 use Rattle.space.specs.declared.Plane.{Plane}
 use Rattle.space.specs.declared.Precision.{Precision}
 use Rattle.space.specs.Shapes.{Face, Cell, Part, nothing, part, corners, allCorners}
 use Rattle.side.specs.Sides.{oppositeOf}
-use Rattle.polygon.specs.Members.{All, same-ok, then-ok}
+use Rattle.polygon.specs.Members.{All}
 use Rattle.room.specs.Laws.{all-none, all-snoc, all-map, all-in}
-use Rattle.room.specs.Steps.{unless-ok, walk-keeps}
+use Rattle.room.specs.Steps.{walk-keeps}
 use Rattle.clip.specs.Cuts.{clip}
 use Rattle.clip.specs.Clips.{Wide}
 use Rattle.clip.specs.Bounds.{part-wide}

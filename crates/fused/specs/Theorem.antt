@@ -6,9 +6,10 @@ use native.Mathlib.Omega.{arith}
 use native.Mathlib.Nat.{not-suc-le-zero, le-of-suc-le-suc}
 use lib.ListN.{length, getD, length-map}
 use Rattle.refusal.specs.Outcome.{Outcome, ok, then}
+use Rattle.refusal.specs.Laws.{same-ok, then-ok}
 use Rattle.space.specs.declared.Precision.{Precision}
 use Rattle.space.specs.Shapes.{Face, Cell}
-use Rattle.polygon.specs.Members.{All, same-ok, then-ok}
+use Rattle.polygon.specs.Members.{All}
 use Rattle.sums.specs.Keys.{range}
 use Rattle.sums.specs.KeyLaws.{getD-map-lt, length-range, getD-range}
 use Rattle.bodies.specs.Fusing.{Facet, noFacet, cellOf, Bodies, fuse}

@@ -1,7 +1,7 @@
 -- Shells and bodies that lie in slices, and their bytes one behind another.
 use mathlib.Core.Path.{_≡_, refl, sym, ap, ap₂, _∙_, subst}
 use mathlib.Core.List.{List, [], _∷_, _++_}
-use Prim.Native.Nat.{ℕ, suc, _+_, _-_, _≤_, _<_}
+use Prim.Native.Nat.{ℕ, _+_, _-_, _≤_, _<_}
 use native.Mathlib.Omega.{arith}
 use lib.Ieee.{Float}
 use lib.ListN.{length, getD, drop, take, length-append}
@@ -11,7 +11,7 @@ use Rattle.words.specs.Little.{digits}
 use Rattle.room.specs.Rooms.{countsAt}
 use Rattle.room.specs.Laws.{sets-append, next-count, counts-done}
 use Rattle.solids.specs.Frames.{facesAt, Placing}
-use Rattle.solids.specs.Faces.{length-face, placing-le}
+use Rattle.solids.specs.Faces.{length-face, placing-le, length-facesAt}
 use Rattle.writer.specs.Rows.{row}
 use Rattle.answer.specs.Laws.{then-sets, length-count}
 use Rattle.fused_answer.specs.declared.Written.{Written}
@@ -40,11 +40,6 @@ lent-in x f q n h w m l =
     let e : length (countsAt x q n) ≡ n = length-face x q n h in
     let k : m < n = omega (arith, l, ap length (lent x q n), e) in
     subst (λ i. i < f) (sym (ap (λ y. getD y m 0) (lent x q n) ∙ getD-take n (drop q x) m 0 k ∙ getD-drop q x m 0)) (w (q + m) (omega arith))
-
-length-facesAt : (x : List ℕ) (from : ℕ) (ns : List ℕ) → length (facesAt x from ns) ≡ length ns
-unfolding facesAt
-length-facesAt x from [] = refl
-length-facesAt x from (n ∷ ns) = ap suc (length-facesAt x (from + n) ns)
 
 module _ (s : List Float) (spots : List ℕ) (ps : List Float) (v starts : List ℕ) (x z : List ℕ) where
   abbrev bytesOf : ℕ → List (List ℕ) → List ℕ

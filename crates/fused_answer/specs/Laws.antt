@@ -11,9 +11,8 @@ use Rattle.space.specs.declared.Plane.{Plane}
 use Rattle.words.specs.Little.{digits}
 use Rattle.polygon.specs.Memory.{pointAt}
 use Rattle.room.specs.Rooms.{countsAt, planeAt}
-use Rattle.job.specs.Written.{pointBytes}
+use Rattle.job.specs.Written.{pointBytes, length-point}
 use Rattle.writer.specs.Rows.{row, NumberRow, numbers-turn, length-row}
-use Rattle.writer.specs.Laws.{length-point}
 use Rattle.keys.specs.Rows as K
 use Rattle.cavities.specs.Steps.{part-slice}
 use Rattle.answer.specs.Answers.{planeBytes, facetAnswer, shellAnswer}

@@ -1,17 +1,18 @@
 -- A fused answer has at most 64 bytes for each corner of the room.
 use mathlib.Core.Path.{_≡_, refl, sym, ap, _∙_, subst}
 use mathlib.Core.List.{List, [], _∷_, _++_, map}
-use Prim.Native.Nat.{ℕ, zero, suc, _+_, _*_, _≤_, _<_}
+use Prim.Native.Nat.{ℕ, _+_, _*_, _≤_, _<_}
 use native.Mathlib.Omega.{arith}
 use lib.ListN.{length, getD, length-append, length-map}
 use Rattle.refusal.specs.declared.Verdict.the-variants.{Fine}
 use Rattle.refusal.specs.Outcome.{Outcome, ok}
+use Rattle.refusal.specs.Laws.{same-ok, then-ok}
 use Rattle.space.specs.declared.Precision.{Precision}
 use Rattle.space.specs.Shapes.{Face, Cell}
 use Rattle.words.specs.Little.{digits}
-use Rattle.polygon.specs.Members.{All, all-append, same-ok, then-ok}
+use Rattle.polygon.specs.Members.{All, all-append}
 use Rattle.clip.specs.Clips.{Wide}
-use Rattle.sums.specs.Sum.{sum, hit, pick, full, Each}
+use Rattle.sums.specs.Sum.{sum, hit, pick, full, Each, pick-le}
 use Rattle.sums.specs.Keys.{users}
 use Rattle.sums.specs.KeyLaws.{sum-lone, full-le, full-ext, each-imp, each-getD}
 use Rattle.groups.specs.Groups.{joined, bounds}
@@ -94,11 +95,6 @@ full-flat : (cs : List (List ℕ)) → full (λ i. length (getD cs i [])) (lengt
 unfolding full flat
 full-flat [] = refl
 full-flat (c ∷ cs) = omega (arith, full-flat cs, length-append c (flat cs))
-
-pick-le : (b x : ℕ) → pick b x ≤ x
-unfolding pick
-pick-le zero x = omega arith
-pick-le (suc b) x = omega arith
 
 faces-wide : (cs : List Cell) → All Wide cs → Wide (facesOf cs)
 unfolding All facesOf

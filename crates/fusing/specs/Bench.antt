@@ -8,7 +8,7 @@ use lib.ListN.{length, getD, length-map, length-append}
 use lib.Seq.{length-slice}
 use Rattle.lists.specs.Walks.{cyclic}
 use Rattle.lists.specs.Laws.{length-cyclic}
-use Rattle.sums.specs.Sum.{sum, sum-one, hit, pick, full, Each}
+use Rattle.sums.specs.Sum.{sum, sum-one, hit, pick, full, Each, pick-le}
 use Rattle.sums.specs.Keys.{users}
 use Rattle.sums.specs.KeyLaws.{sum-lone, full-le, full-ext, lone-in, all-each, each-getD}
 use Rattle.sums.specs.CountLaws.{ones}
@@ -50,11 +50,6 @@ runs-size v starts p (i ∷ l) = omega (
   length-cyclic (row v starts i),
   runs-size v starts (suc p) l,
 )
-
-pick-le : (b x : ℕ) → pick b x ≤ x
-unfolding pick
-pick-le zero x = omega arith
-pick-le (suc b) x = omega arith
 
 -- steps upwards from one place to another
 climb : (g : ℕ → ℕ) (n : ℕ) → ((k : ℕ) → k < n → g k ≤ g (suc k)) → full (λ i. g (suc i) - g i) n + g 0 ≡ g n

@@ -14,7 +14,7 @@ use Rattle.refusal.specs.Outcome.{Outcome, ok, refused}
 use Rattle.sums.specs.Sum.{Each}
 use Rattle.sums.specs.KeyLaws.{getD-map-lt, each-getD}
 use Rattle.sums.specs.Components.{components}
-use Rattle.sums.specs.ComponentLaws.{Ascend, Components}
+use Rattle.sums.specs.ComponentLaws.{Components, none-empty}
 use Rattle.keys.specs.Rows.{Starts, rows}
 use Rattle.groups.specs.Groups.{joined, Grouped, Within, joinsOf}
 use Rattle.bodies.specs.Fusing.{Sense, orderShells}
@@ -37,10 +37,6 @@ pub record Faced (v starts : List ℕ) (f : ℕ) (fl : List ℕ) : Type 0 where
   pub some : (k : ℕ) → k < f → getD starts k 0 < getD starts (k + 1) 0
   pub inn : (k : ℕ) → k < length fl → getD fl k 0 < f
 
-some-in : (b : ℕ) (gs : List (List ℕ)) → Ascend b gs → Each (λ g. 0 < length g) gs
-some-in b [] a = tt
-some-in b (g ∷ gs) a = (omega (arith, ap length (a .2)), some-in (suc (a .0)) gs (a .5))
-
 each-some : (h : ℕ → ℕ) (gs : List (List ℕ)) → Each (λ g. 0 < length g) gs → Each (λ g. 0 < length g) (map (map h) gs)
 each-some h [] e = tt
 each-some h (g ∷ gs) e = (omega (arith, e .0, length-map g h), each-some h gs (e .1))
@@ -55,7 +51,7 @@ namedShells fl ends = map (map (nameIn fl)) (components (length fl) (joinsOf end
 
 module _ (v starts : List ℕ) (f : ℕ) (ends head next seen work fl d₀ c₀ d c : List ℕ) (g : ℕ) (s : Spread ends head next seen work fl d₀ c₀) (w : Grouped (namedShells fl ends) d₀ c₀ d c g) where
   full : Each (λ g. 0 < length g) (namedShells fl ends)
-  full = each-some (nameIn fl) (components (length fl) (joinsOf ends)) (some-in 0 (components (length fl) (joinsOf ends)) (found ends (length fl) (s .within) .ascend))
+  full = each-some (nameIn fl) (components (length fl) (joinsOf ends)) (none-empty 0 (components (length fl) (joinsOf ends)) (found ends (length fl) (s .within) .ascend))
 
   size : length (joined (namedShells fl ends)) ≡ length fl
   size = ap length (joined-map (nameIn fl) (components (length fl) (joinsOf ends))) ∙ length-map (joined (components (length fl) (joinsOf ends))) (nameIn fl) ∙ many-nodes ends (length fl) (s .within)

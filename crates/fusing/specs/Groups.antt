@@ -8,13 +8,8 @@ use lib.ListN.{length, getD, take, drop, length-append, List·getD-append}
 use lib.Seq.{slice, take-suc, take-all, take-at, drop-at, take-append-add, ext-getD}
 use Rattle.sums.specs.Sum.{Each}
 use Rattle.keys.specs.Rows.{Starts, row, rows, row-at, length-rows}
-use Rattle.groups.specs.Groups.{joined, bounds, Grouped}
+use Rattle.groups.specs.Groups.{joined, bounds, Grouped, length-bounds}
 use Rattle.listing.specs.Listed.{joined-both, joined-one}
-
-size-bounds : (a : ℕ) (gs : List (List ℕ)) → length (bounds a gs) ≡ suc (length gs)
-unfolding bounds
-size-bounds a [] = refl
-size-bounds a (g ∷ gs) = ap suc (size-bounds (a + length g) gs)
 
 bound-at : (a : ℕ) (gs : List (List ℕ)) (k : ℕ) → k ≤ length gs → getD (bounds a gs) k 0 ≡ a + length (joined (take k gs))
 unfolding bounds joined
@@ -34,7 +29,7 @@ joined-take gs k h = ap length (ap (λ n. joined (take n gs)) (add-one k) ∙ ap
 
 module _ (gs : List (List ℕ)) (d₀ c₀ d c : List ℕ) (m : ℕ) (w : Grouped gs d₀ c₀ d c m) where
   cut : (k : ℕ) → k ≤ m → getD c k 0 ≡ length (joined (take k gs))
-  cut k h = ap (λ l. getD l k 0) (w .cuts) ∙ List·getD-append (bounds 0 gs) (drop (m + 1) c₀) 0 k (omega (arith, size-bounds 0 gs, w .many)) ∙ bound-at 0 gs k (omega (arith, w .many)) ∙ omega arith
+  cut k h = ap (λ l. getD l k 0) (w .cuts) ∙ List·getD-append (bounds 0 gs) (drop (m + 1) c₀) 0 k (omega (arith, length-bounds 0 gs, w .many)) ∙ bound-at 0 gs k (omega (arith, w .many)) ∙ omega arith
 
   long : length (joined gs) ≤ length d
   long = omega (arith, ap length (w .nodes), length-append (joined gs) (drop (length (joined gs)) d₀))
@@ -51,7 +46,7 @@ module _ (gs : List (List ℕ)) (d₀ c₀ d c : List ℕ) (m : ℕ) (w : Groupe
     first = cut 0 (omega arith);
     up = λ k h. omega (arith, next-cut k h);
     inn = λ k h. omega (arith, next-cut k h, cut k (omega arith), upto k h, long);
-    many = omega (arith, ap length (w .cuts), length-append (bounds 0 gs) (drop (m + 1) c₀), size-bounds 0 gs, w .many);
+    many = omega (arith, ap length (w .cuts), length-append (bounds 0 gs) (drop (m + 1) c₀), length-bounds 0 gs, w .many);
   }
 
   pub last-cut : getD c m 0 ≡ length (joined gs)

@@ -7,11 +7,12 @@ use native.Mathlib.Omega.{arith}
 use native.Mathlib.Numerals.{add-one}
 use native.Mathlib.Nat.{add-assoc}
 use lib.ListN.{length, getD, set, take, drop, replicate, length-set, length-replicate, length-append, take-append-drop}
-use lib.Seq.{drop-cons, set-at, drop-length, getD-set-same, getD-take, take-take, take-at, drop-at, drop-drop, drop-set-lt, take-suc-set, length-take-le}
+use lib.Seq.{drop-cons, set-at, drop-length, getD-set-same, getD-take, take-take, take-at, drop-at, drop-set-lt, take-suc-set, length-take-le}
 use Rattle.sums.specs.Sum.{sum, open′, open-le, flagged-one, sum-one, flagged}
 use Rattle.sums.specs.Components.{Got, start, gather, comps, components}
 use Rattle.sums.specs.ComponentLaws.{comps-new, comps-old, root-weight, root-size}
 use Rattle.sums.specs.Keys.{nbrs}
+use Rattle.sums.specs.KeyLaws.{drop-up, sum-append}
 use Rattle.groups.specs.Chain.{Inside, Linked, around, pairsOf}
 use Rattle.groups.specs.Stack.{Net, linked-net, getD-any}
 use Rattle.groups.specs.Walk.{Walked}
@@ -43,10 +44,16 @@ bounds-snoc a (h ∷ gs) g =
     let z : a + length h + length (joined gs) + length g ≡ a + length (h ++ joined gs) + length g = omega (arith, length-append h (joined gs)) in
     ap (λ l. a ∷ l) (bounds-snoc (a + length h) gs g ∙ ap (λ n. bounds (a + length h) gs ++ (n ∷ [])) z)
 
-length-bounds : (a : ℕ) (gs : List (List ℕ)) → length (bounds a gs) ≡ suc (length gs)
+pub length-bounds : (a : ℕ) (gs : List (List ℕ)) → length (bounds a gs) ≡ suc (length gs)
 unfolding bounds
 length-bounds a [] = refl
 length-bounds a (g ∷ gs) = ap suc (length-bounds (a + length g) gs)
+
+-- a sum over all groups, group by group
+pub sum-joined : (f : ℕ → ℕ) (gs : List (List ℕ)) → sum f (joined gs) ≡ sum (sum f) gs
+unfolding joined sum
+sum-joined f [] = refl
+sum-joined f (g ∷ gs) = sum-append f g (joined gs) ∙ ap (λ n. sum f g + n) (sum-joined f gs)
 
 last-bound : (a : ℕ) (gs : List (List ℕ)) → getD (bounds a gs) (length gs) 0 ≡ a + length (joined gs)
 unfolding joined bounds
@@ -106,11 +113,6 @@ rooted-start adj n w d c h z hw hd = record {
     first : (c : List ℕ) → 0 < length c → getD c 0 0 ≡ 0 → take (0 + 1) c ≡ 0 ∷ []
     first [] h e = absurd (omega arith)
     first (x ∷ c) h e = ap (λ y. y ∷ []) e
-
-drop-up : (a e : ℕ) (k k₀ : List ℕ) → a ≤ e → drop a k ≡ drop a k₀ → drop e k ≡ drop e k₀
-drop-up a e k k₀ h q =
-    let z : e ≡ a + (e - a) = omega arith in
-    rw z (sym (drop-drop (e - a) a k) ∙ ap (drop (e - a)) q ∙ drop-drop (e - a) a k₀)
 
 -- a root that is seen
 pub root-old : (adj : ℕ → List ℕ) (s w d c : List ℕ) (m r : ℕ) → r < length s → getD s r 0 ≢ 0 → Rooted adj s w d c m r → Roots adj m s w d c s w d c m (r + 1)

@@ -12,7 +12,7 @@ use Rattle.refusal.specs.declared.Refusal.{Refusal}
 use Rattle.refusal.specs.declared.Verdict.{Verdict}
 use Rattle.refusal.specs.declared.Verdict.the-variants as D
 use Rattle.refusal.specs.Outcome.{Outcome, ok, refused, refusalOf, then, each, heard}
-use Rattle.refusal.specs.Laws.{stop, go}
+use Rattle.refusal.specs.Laws.{stop, go, same-ok, then-ok}
 use Rattle.lists.specs.Laws.{cond-yes, cond-no}
 use Rattle.space.specs.declared.Point3.{Point3}
 use Rattle.space.specs.declared.Plane.{Plane}
@@ -20,9 +20,9 @@ use Rattle.space.specs.declared.Precision.{Precision}
 use Rattle.space.specs.Shapes.{Face, Cell, corners}
 use Rattle.side.specs.Sides.{oppositeOf}
 use Rattle.polygon.specs.Memory.{floats, floatsOf, pointAt, pointsAt}
-use Rattle.polygon.specs.Members.{same-ok, then-ok}
+use Rattle.polygon.specs.MemoryLaws.{length-pointsAt}
 use Rattle.room.specs.Rooms.{planeFloats, cellFloats, cellCounts, faceAt, cellAt, countsAt}
-use Rattle.room.specs.Laws.{sets-append, sets-point, point-of, length-pointsAt, corners-cons, corners-none, corners-snoc, within-le}
+use Rattle.room.specs.Laws.{sets-append, sets-point, point-of, corners-cons, corners-none, corners-snoc, within-le}
 use Rattle.cell.specs.Laws.{Ahead, ahead-next, ahead-inside, ahead-face, ahead-done}
 use Rattle.bounds.specs.Bounds.{against, Lies}
 use Rattle.offset.specs.Stored.{FaceMoved, CellMoved, Place}

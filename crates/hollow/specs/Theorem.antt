@@ -6,12 +6,12 @@ use Prim.Native.Nat.{ℕ}
 use lib.Ieee.{Float, neg}
 use borrow.Author.Tests.{not-false}
 use Rattle.refusal.specs.Outcome.{Outcome, ok, each, heard}
+use Rattle.refusal.specs.Laws.{then-ok, unless-ok}
 use Rattle.space.specs.declared.Precision.{Precision}
 use Rattle.space.specs.Shapes.{Cell}
 use Rattle.side.specs.declared.Side.the-variants as S
 use Rattle.side.specs.Sides.{sideOf}
-use Rattle.polygon.specs.Members.{All, then-ok}
-use Rattle.room.specs.Steps.{unless-ok}
+use Rattle.polygon.specs.Members.{All}
 use Rattle.bounds.specs.Bounds.{against}
 use Rattle.bounds.specs.Laws.{against-negative}
 use Rattle.offset.specs.Offsets.{offsetCell}

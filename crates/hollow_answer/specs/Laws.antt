@@ -11,17 +11,17 @@ use Rattle.refusal.specs.declared.Refusal.{Refusal}
 use Rattle.refusal.specs.declared.Verdict.{Verdict}
 use Rattle.refusal.specs.declared.Verdict.the-variants as D
 use Rattle.refusal.specs.Outcome.{Outcome, ok, refused, refusalOf, each, heard}
-use Rattle.refusal.specs.Laws.{stop, go}
+use Rattle.refusal.specs.Laws.{stop, go, same-ok, then-ok}
 use Rattle.space.specs.declared.Precision.{Precision}
 use Rattle.space.specs.Shapes.{Face, Cell, corners}
 use Rattle.polygon.specs.Memory.{pointAt, pointsAt}
-use Rattle.polygon.specs.Members.{same-ok, then-ok}
+use Rattle.polygon.specs.MemoryLaws.{length-pointsAt}
 use Rattle.room.specs.Rooms.{cellFloats, cellCounts, faceAt, cellAt, countsAt, Within}
-use Rattle.room.specs.Laws.{corners-cons, corners-none, length-cellFloats, length-cellCounts, cell-stored, points-before, within-le, length-pointsAt}
+use Rattle.room.specs.Laws.{corners-cons, corners-none, length-cellFloats, cell-stored, points-before, within-le, cell-counts, cell-faces, cellCounts-snoc}
 use Rattle.words.specs.Little.{digits}
 use Rattle.solids.specs.Faces.{length-face}
 use Rattle.bounds.specs.Bounds.{against, Lies}
-use Rattle.offset.specs.Indexes.{corners-same, cell-counts, run-back}
+use Rattle.offset.specs.Indexes.{corners-same, run-back}
 use Rattle.offset.specs.Theorem.{heard-ok}
 use Rattle.hollow.specs.Hollows.{reversedFace, Hollow, hollowRoom, hollowOf, hollowIn}
 use Rattle.hollow.specs.Stored.{behind, Walled, Walls}
@@ -44,9 +44,6 @@ facets-size (f ∷ c) = omega (arith, length-append (facetAnswer f) (row facetAn
 pub shell-size : (k : ℕ) (c : Cell) → length (shellAnswer k c) ≡ 5 + 100 * length c + 24 * corners 0 c
 unfolding shellAnswer
 shell-size k c = omega (arith, length-append (digits 4 (length c)) (row facetAnswer c), length-count (length c), facets-size c)
-
-faces-many : (s : List Float) (at : ℕ) (counts : List ℕ) (j n : ℕ) → j + n ≤ length counts → length (cellAt s at (countsAt counts j n)) ≡ n
-faces-many s at counts j n h = sym (length-cellCounts (cellAt s at (countsAt counts j n))) ∙ ap length (cell-counts s at (countsAt counts j n)) ∙ length-face counts j n h
 
 long-face : (f : Face) (c : Cell) → length (cellFloats (f ∷ c)) ≡ 12 + 3 * length (f .points) + length (cellFloats c)
 long-face f c = omega (arith, length-cellFloats (f ∷ c), length-cellFloats c, corners-cons f c)
@@ -80,13 +77,13 @@ module _ (s : List Float) (counts : List ℕ) (n : ℕ) (P : Pair s counts n) (o
     body-total =
         let c = cellAt s (12 * n + 3 * o) (countsAt counts n n) in
         let w = floats-fit c (12 * n + 3 * o) (length s) (subst (λ l. Within l (12 * n + 3 * o) (length s)) (sym (cell-counts s (12 * n + 3 * o) (countsAt counts n n))) (body-inner .within)) in
-        omega (arith, w, length-cellFloats c, faces-many s (12 * n + 3 * o) counts n n (P .inner .listed), ei)
+        omega (arith, w, length-cellFloats c, cell-faces s (12 * n + 3 * o) counts n n (P .inner .listed), ei)
 
     one : length (shellAnswer 1 (cellAt s 0 (countsAt counts 0 n))) ≡ 5 + 100 * n + 24 * o
-    one = omega (arith, shell-size 1 outer, faces-many s 0 counts 0 n (P .outer .listed), eo)
+    one = omega (arith, shell-size 1 outer, cell-faces s 0 counts 0 n (P .outer .listed), eo)
 
     two : length (shellAnswer 0 (cellAt s (12 * n + 3 * o) (countsAt counts n n))) ≡ 5 + 100 * n + 24 * i
-    two = omega (arith, shell-size 0 (cellAt s (12 * n + 3 * o) (countsAt counts n n)), faces-many s (12 * n + 3 * o) counts n n (P .inner .listed), ei)
+    two = omega (arith, shell-size 0 (cellAt s (12 * n + 3 * o) (countsAt counts n n)), cell-faces s (12 * n + 3 * o) counts n n (P .inner .listed), ei)
 
     abbrev first : List ℕ
     first = shellAnswer 1 (cellAt s 0 (countsAt counts 0 n))
@@ -162,18 +159,13 @@ counts-before l n v h =
 
 -- ---- the reversed cell has as many corners in each face
 
-counts-snoc : (c : Cell) (f : Face) → cellCounts (c ++ (f ∷ [])) ≡ cellCounts c ++ (length (f .points) ∷ [])
-unfolding cellCounts
-counts-snoc [] f = refl
-counts-snoc (g ∷ c) f = ap (λ l. length (g .points) ∷ l) (counts-snoc c f)
-
 pub reversed-counts : (t : Precision) (l before c : Cell) → each (reversedFace t) before l ≡ ok c → cellCounts c ≡ cellCounts before ++ cellCounts l
 unfolding each cellCounts
 reversed-counts t [] before c e = ap cellCounts (sym (same-ok e)) ∙ sym (append-nil (cellCounts before))
 reversed-counts t (f ∷ l) before c e =
     let g = then-ok (reversedFace t f) (λ y. each (reversedFace t) (before ++ (y ∷ [])) l) c e in
     reversed-counts t l (before ++ (g .0 ∷ [])) c (g .2)
-    ∙ ap (λ x. x ++ cellCounts l) (counts-snoc before (g .0))
+    ∙ ap (λ x. x ++ cellCounts l) (cellCounts-snoc before (g .0))
     ∙ append-assoc (cellCounts before) (length (g .0 .points) ∷ []) (cellCounts l)
     ∙ ap (λ x. cellCounts before ++ (x ∷ cellCounts l)) (reversed-corners t f (g .0) (g .1))
 

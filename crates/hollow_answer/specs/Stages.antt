@@ -11,13 +11,13 @@ use Rattle.refusal.specs.declared.Refusal.{Refusal}
 use Rattle.refusal.specs.declared.Verdict.{Verdict}
 use Rattle.refusal.specs.declared.Verdict.the-variants as D
 use Rattle.refusal.specs.Outcome.{Outcome, ok, refused, then}
-use Rattle.refusal.specs.Laws.{stop, go}
+use Rattle.refusal.specs.Laws.{stop, go, same-ok}
 use Rattle.space.specs.declared.Precision.{Precision}
 use Rattle.space.specs.Shapes.{Cell, corners}
 use Rattle.polygon.specs.Memory.{pointsAt}
-use Rattle.polygon.specs.Members.{All, same-ok}
+use Rattle.polygon.specs.Members.{All}
 use Rattle.room.specs.Rooms.{cellFloats, cellCounts, cellAt, countsAt, Within, Small}
-use Rattle.room.specs.Laws.{cell-stored, within-stored, length-cellFloats, length-cellCounts}
+use Rattle.room.specs.Laws.{cell-stored, within-stored, length-cellFloats, length-cellCounts, cell-counts}
 use Rattle.indexed.specs.declared.Counted.{Counted}
 use Rattle.indexed.specs.declared.Counted.the-variants as C
 use Rattle.indexed.specs.Stored.{Stored, Fits}
@@ -27,7 +27,7 @@ use Rattle.bounds.specs.Bounds.{Lies}
 use Rattle.offset.specs.Offsets.{offsetCell}
 use Rattle.offset.specs.Stored.{CellMoved, Place, Ready}
 use Rattle.offset.specs.Theorem.{offset-counts}
-use Rattle.offset.specs.Indexes.{corners-same, cell-counts, stored-not, indexed-counts}
+use Rattle.offset.specs.Indexes.{corners-same, stored-not, indexed-counts}
 use Rattle.offset.specs.Whole.{cell-size, cell-not, counts-are}
 use Rattle.hollow.specs.Stored.{behind, Walls}
 use Rattle.solid_check.specs.Check.{check, cellOf, framed}

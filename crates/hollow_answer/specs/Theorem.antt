@@ -4,12 +4,11 @@ use mathlib.Core.Bool.{Bool, true, false, not}
 use mathlib.Core.List.{List, [], _∷_, _++_, map, reverse, reverseAux}
 use Prim.Native.Nat.{ℕ, zero, suc, _+_, _≤_, _<_}
 use native.Mathlib.Omega.{arith}
-use native.Mathlib.Decide.{decLt}
 use lib.Dec.{eqb}
-use lib.ListN.{length, getD, length-append}
+use lib.ListN.{length, getD}
 use lib.Ieee.{Float, neg}
-use borrow.Author.Tests.{eqb-false}
 use Rattle.refusal.specs.Outcome.{Outcome, ok, refused, then, unless, walk, each}
+use Rattle.refusal.specs.Laws.{same-ok, never-ok, then-ok}
 use Rattle.space.specs.declared.Point3.{Point3}
 use Rattle.space.specs.declared.Precision.{Precision}
 use Rattle.space.specs.declared.Closeness.{Closeness}
@@ -20,9 +19,10 @@ use Rattle.space.specs.Vector.{origin}
 use Rattle.space.specs.Shapes.{Face, Cell, Solid}
 use Rattle.side.specs.declared.Side.the-variants as S
 use Rattle.side.specs.Sides.{sideOf, oppositeOf}
-use Rattle.polygon.specs.Members.{All, same-ok, never-ok, then-ok, all-append}
+use Rattle.polygon.specs.Members.{All, all-append}
 use Rattle.room.specs.Laws.{all-none, all-snoc, all-map}
 use Rattle.indexed.specs.Indexed.{Search, placeIn, Places, joined, placed, indexPoint, indexPoints, withFace, indexFace, indexed}
+use Rattle.indexed.specs.Laws.{joined-low}
 use Rattle.solids.specs.Frames.{pointOf, planeFor}
 use Rattle.hollow.specs.Hollows.{reversedFace, Hollow, hollow}
 use Rattle.hollow.specs.Theorem.{Answered, hollow-answered}
@@ -42,13 +42,6 @@ place-low : (t : Precision) (q : Point3) (l : List Point3) (i j : ℕ) → place
 unfolding placeIn
 place-low t q [] i j e = let d : i ≡ j = same-ok e in omega (arith, d)
 place-low t q (r ∷ l) i j e = near-low (nearOf t q r) (placeIn t q (suc i) l) i j (i + length (r ∷ l)) e (omega arith) (λ h. omega (arith, place-low t q l (suc i) j h))
-
-apart : (i n : ℕ) → eqb i n ≡ false → i ≤ n → i < n
-apart i n e h = elim (decLt i n) [ yes k ↦ k | no k ↦ absurd (eqb-false i n e (omega arith)) ]
-
-joined-low : (l : List Point3) (q : Point3) (b : Bool) (i : ℕ) → eqb i (length l) ≡ b → i ≤ length l → (length l ≤ length (joined l q b)) × (i < length (joined l q b))
-joined-low l q true i e h = (let n = length-append l (q ∷ []) in (omega (arith, n), omega (arith, n)))
-joined-low l q false i e h = (omega arith, apart i (length l) e h)
 
 -- ---- what holds of all corners of a cell holds of the points of `indexed`, and the places are below their number
 

@@ -8,15 +8,16 @@ use borrow.Author.Tests.{ltb-false}
 use lib.Dec.{ltb}
 use lib.ListN.{length}
 use Rattle.refusal.specs.Outcome.{ok, walk}
+use Rattle.refusal.specs.Laws.{same-ok, never-ok, then-ok, unless-ok}
 use Rattle.exact.specs.declared.Turn.{Turn}
 use Rattle.exact.specs.declared.Turn.the-variants.{Positive, Negative, Zero, None}
 use Rattle.space.specs.declared.Point3.{Point3}
 use Rattle.space.specs.declared.Precision.{Precision}
 use Rattle.space.specs.declared.Plane.{Plane}
 use Rattle.polygon.specs.Unique.{unique}
-use Rattle.polygon.specs.Members.{All, same-ok, never-ok, then-ok, all-append, unique-all}
+use Rattle.polygon.specs.Members.{All, all-append, unique-all}
 use Rattle.hull.specs.Hull.{Flat, flatOn, beforeFlat, insertFlat, sortFlat, turn, chainOne, chain, half, ringed, chains, hullOn, hull, capOf}
-use Rattle.hull.specs.Laws.{insert-on, insert-here, chain-left, chain-right, chain-straight, chain-none, unless-ok, cap-hull}
+use Rattle.hull.specs.Laws.{insert-on, insert-here, chain-left, chain-right, chain-straight, chain-none, cap-hull}
 
 either : (b : Bool) → (b ≡ true) ⊎ (b ≡ false)
 either true = inl refl

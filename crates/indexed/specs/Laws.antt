@@ -1,13 +1,15 @@
 -- Laws of `indexed`: one turn of each of its loops, in the words of the code.
 use mathlib.Core.Path.{_≡_, refl, sym, ap, _∙_, subst}
 use mathlib.Core.Bool.{Bool, true, false}
-use mathlib.Core.List.{List, [], _∷_, _++_, append-nil, append-assoc}
+use mathlib.Core.List.{List, [], _∷_, _++_, append-nil, append-assoc, map}
 use Prim.Native.Nat.{ℕ, zero, suc, _+_, _-_, _*_, _≤_, _<_}
 use native.Mathlib.Omega.{arith}
 use native.Mathlib.Numerals.{add-one, add-two, add-three}
+use native.Mathlib.Decide.{decLt}
 use lib.ListN.{length, drop, set, getD, length-append, length-set}
 use lib.Seq.{sets, length-sets, set-getD}
 use lib.Dec.{eqb}
+use borrow.Author.Tests.{eqb-false}
 use lib.Ieee.{Float, nan}
 use Rattle.refusal.specs.declared.Refusal.{Refusal}
 use Rattle.refusal.specs.Outcome.{Outcome, ok, refused, then, walk}
@@ -19,11 +21,12 @@ use Rattle.space.specs.declared.Closeness.the-variants.{Near, Apart, Refused}
 use Rattle.space.specs.Near.{nearOf}
 use Rattle.space.specs.Shapes.{Face, Cell, Solid, corners}
 use Rattle.polygon.specs.Memory.{floats, floatsOf, pointAt, pointsAt}
-use Rattle.room.specs.Rooms.{Within, cellAt, faceAt, countsAt}
+use Rattle.polygon.specs.MemoryLaws.{length-pointsAt}
+use Rattle.room.specs.Rooms.{Within, cellAt, faceAt, countsAt, cellCounts}
 use Rattle.lists.specs.Walks.{Numbered, numbered}
 use Rattle.room.specs.Numbered.{next-numbered, numbered-done}
 use Rattle.room.specs.Stores.{sets-over}
-use Rattle.room.specs.Laws.{sets-append, sets-point, points-more, points-stored, next-point, points-done, next-count, counts-done, cell-next, cell-none, within-small, within-rest, within-le, corners-cons, length-pointsAt, length-floatsOf}
+use Rattle.room.specs.Laws.{sets-append, sets-point, points-more, points-stored, next-point, points-done, next-count, counts-done, cell-next, cell-none, within-small, within-rest, within-le, corners-cons, length-floatsOf, corners-none}
 use Rattle.indexed.specs.declared.Pick.{Pick}
 use Rattle.indexed.specs.declared.Pick.the-variants.{First, Only}
 use Rattle.indexed.specs.declared.Counted.{Counted}
@@ -41,6 +44,27 @@ pub counted-refused : (r : Counted) (x : Refusal) → counted r ≡ refused x �
 unfolding counted
 counted-refused (C.Made m) x e = absurd (let z : _≡_ {A = ℕ} 0 1 = cc in omega arith)
 counted-refused (C.Refused y) x e = cc
+
+-- ---- a point that joins the others where it is new
+
+pub joined-most : (l : List Point3) (q : Point3) (b : Bool) → length (joined l q b) ≤ length l + 1
+joined-most l q true = omega (arith, length-append l (q ∷ []))
+joined-most l q false = omega arith
+
+-- its place is one of them
+pub joined-low : (l : List Point3) (q : Point3) (b : Bool) (i : ℕ) → eqb i (length l) ≡ b → i ≤ length l → (length l ≤ length (joined l q b)) × (i < length (joined l q b))
+joined-low l q true i e h = (let n = length-append l (q ∷ []) in (omega (arith, n), omega (arith, n)))
+joined-low l q false i e h = (omega arith, elim (decLt i (length l)) [ yes k ↦ k | no k ↦ absurd (eqb-false i (length l) e (omega arith)) ])
+
+-- ---- how many places there are: as many as corners, where each face has a place for each of its own
+
+pub flat-corners : (fs : List (List ℕ)) (c : Cell) → map length fs ≡ cellCounts c → length (flat fs) ≡ corners 0 c
+unfolding flat cellCounts
+flat-corners [] [] e = sym corners-none
+flat-corners [] (g ∷ c) e = absurd (omega (arith, ap length e))
+flat-corners (f ∷ fs) [] e = absurd (omega (arith, ap length e))
+flat-corners (f ∷ fs) (g ∷ c) e =
+    omega (arith, flat-corners fs c (ap (drop 1) e), ap (λ l. getD l 0 0) e, length-append f (flat fs), corners-cons g c)
 
 -- ---- one point of a search
 

@@ -1,6 +1,6 @@
 -- Laws of the intake, in the words of the code.
 use mathlib.Core.Path.{_≡_, refl, sym, ap, ap₂, _∙_, subst}
-use mathlib.Core.Bool.{Bool, true, false, not, _&&_}
+use mathlib.Core.Bool.{Bool, true, false, not, _&&_, true≢false}
 use mathlib.Core.List.{List, [], _∷_, map}
 use Prim.Native.Nat.{ℕ, suc, _+_, _*_, _-_, _/_, _≤_, _<_}
 use native.Mathlib.Omega.{arith}
@@ -13,15 +13,16 @@ use Rattle.refusal.specs.declared.Refusal.{Refusal}
 use Rattle.refusal.specs.declared.Verdict.{Verdict}
 use Rattle.refusal.specs.declared.Verdict.the-variants as D
 use Rattle.refusal.specs.Outcome.{Outcome, ok, refused, refusalOf, unless, verdictOf}
+use Rattle.refusal.specs.Laws.{never-ok, unless-ok}
+use Rattle.refusal.specs.Tests.{and-true}
 use Rattle.lists.specs.Walks.{all, cyclic}
 use Rattle.lists.specs.Laws.{length-cyclic}
 use Rattle.space.specs.declared.Point3.{Point3}
 use Rattle.space.specs.declared.Precision.{Precision}
 use Rattle.space.specs.Vector.{fairPoint}
 use Rattle.space.specs.Shapes.{Cell, Solid, corners}
-use Rattle.polygon.specs.Members.{All, never-ok}
+use Rattle.polygon.specs.Members.{All}
 use Rattle.room.specs.Rooms.{cellAt, cellCounts, cellFloats, countsAt, Within}
-use Rattle.room.specs.Steps.{unless-ok}
 use Rattle.room.specs.Laws.{length-cellFloats, length-cellCounts, corners-cons, corners-none, cell-stored, within-stored, all-map}
 use Rattle.job.specs.declared.Span.{Span}
 use Rattle.job.specs.Records.{standing, runOf, facesAfter, total, facesOf}
@@ -33,7 +34,6 @@ use Rattle.pack.specs.Laws.{points-more, points-none, solid-points}
 use Rattle.solids.specs.Order.{fairAll, within, countedAll, shaped}
 use Rattle.solids.specs.Frames.{Placing}
 use Rattle.topology.specs.Topology.{cornerOf, cornersOf, fits, usedAll, connected, rounded, soundBy, sound}
-use Rattle.topology.specs.Chains.{and-true}
 use Rattle.solid_check.specs.Check.{cellOf, after, check, stored}
 use Rattle.solid_check.specs.Check as K
 use Rattle.solid_check.specs.Laws.{check-counted}
@@ -120,9 +120,6 @@ false-or : (b : Bool) → (b ≡ true → ⊥) → b ≡ false
 false-or true h = absurd (h refl)
 false-or false h = refl
 
-never : true ≡ false → ⊥
-never e = absurd (let z : _≡_ {A = ℕ} 0 1 = cc in omega arith)
-
 -- ---- a solid that is not unpacked
 
 module _ (t : Precision) (l : List ℕ) (a : Span) (P : Placed l (a .start) a) where
@@ -156,7 +153,7 @@ module _ (t : Precision) (l : List ℕ) (a : Span) (P : Placed l (a .start) a) w
       let r = sound-round (a .points) (S .faces) g in
       let k : a .corners ≤ 384 = omega (arith, r, c .0, c .1, face-count l a, ap total (counts-from l (a .start) a P), total-from l (a .start) a P) in
       let y : small a ≡ true = ap₂ (λ x z. x && z) (ap₂ (λ x z. x && z) (le-leb (a .points) 128 (c .0)) (le-leb (a .faces) 64 (c .1))) (le-leb (a .corners) 384 k) in
-      never (sym y ∙ h))
+      true≢false (sym y ∙ h))
 
   pub large-numbers : (r : Refusal) → r ≡ refusalOf 2 → fairAll ps ≡ false → D.Refused r ≡ verdictOf (check true t S)
   unfolding verdictOf
@@ -285,7 +282,7 @@ module _ (t : Precision) (l : List ℕ) (a : Span) (P : Placed l (a .start) a) w
       let m : a .points ≤ 128 = omega (arith, p .points, solid-count l a) in
       let n : a .faces ≤ 64 = omega (arith, p .few, face-count l a) in
       let y : small a ≡ true = ap₂ (λ x z. x && z) (ap₂ (λ x z. x && z) (le-leb (a .points) 128 m) (le-leb (a .faces) 64 n)) (le-leb (a .corners) 384 k) in
-      never (sym y ∙ h)
+      true≢false (sym y ∙ h)
 
   pub large-took : (v : Verdict) (r : Taken) (s : List Float) (counts : List ℕ) → small a ≡ false → v ≡ verdictOf (check true t (solidAt l a)) → r ≡ takenAs v 0 → Took (check true t (solidAt l a)) r s counts
   large-took v r s counts h e g =

@@ -10,6 +10,7 @@ use Rattle.refusal.specs.declared.Refusal.{Refusal}
 use Rattle.refusal.specs.declared.Verdict.{Verdict}
 use Rattle.refusal.specs.declared.Verdict.the-variants.{Fine, Refused}
 use Rattle.refusal.specs.Outcome.{ok, refused, refusalOf, walk, heard}
+use Rattle.refusal.specs.Laws.{never-fine}
 use Rattle.sums.specs.Sum.{hit}
 use Rattle.sums.specs.Keys.{keep, order, users, lone, pairs}
 use Rattle.sums.specs.SizeLaws.{Sized, at, lonesFrom, one-lone, two-users, two-lone, more-users}
@@ -26,9 +27,6 @@ pub record Met-all (fs : List Facet) (x d : List ℕ) (m : Met) : Type 0 where
   pub paired : m .verdict ≡ Fine → take (2 * m .pairs) d ≡ endsOf (interfaces fs)
   pub few : m .verdict ≡ Fine → m .listed ≤ length x
   pub half : m .verdict ≡ Fine → 2 * m .pairs ≤ length d
-
-never : {A : Type 0} (r : Refusal) → Refused r ≡ Fine → A
-never r e = let z : _≡_ {A = ℕ} 0 1 = cc in absurd (omega arith)
 
 module _ (fs : List Facet) (ks : List (List ℕ)) where
   -- Before place p: a facets are listed, b pairs meet.
@@ -105,16 +103,16 @@ module _ (fs : List Facet) (ks : List (List ℕ)) where
 
       listed : (v : Verdict) → Standing x d v (m .at) (m .listed) (m .pairs) → v ≡ Fine → take (m .listed) x ≡ exterior fs
       listed Fine w e = unfold Standing in (sym (append-nil (take (m .listed) x)) ∙ ap (λ l. take (m .listed) x ++ l) (sym none) ∙ w .listed ∙ ap lone q)
-      listed (Refused r) w e = never r e
+      listed (Refused r) w e = never-fine e
 
       paired : (v : Verdict) → Standing x d v (m .at) (m .listed) (m .pairs) → v ≡ Fine → take (2 * m .pairs) d ≡ endsOf (interfaces fs)
       paired Fine w e = unfold Standing in (judged-pairs (judgeUsers fs) (cellOf fs) ks d (m .at) (m .pairs) (w .judged) h ∙ ap (λ ks. named (judgeUsers fs) (cellOf fs) ks (pairs ks)) q)
-      paired (Refused r) w e = never r e
+      paired (Refused r) w e = never-fine e
 
       few : (v : Verdict) → Standing x d v (m .at) (m .listed) (m .pairs) → v ≡ Fine → m .listed ≤ length x
       few Fine w e = unfold Standing in omega (arith, w .few, w .judged .upto, w .room)
-      few (Refused r) w e = never r e
+      few (Refused r) w e = never-fine e
 
       half : (v : Verdict) → Standing x d v (m .at) (m .listed) (m .pairs) → v ≡ Fine → 2 * m .pairs ≤ length d
       half Fine w e = unfold Standing in omega (arith, w .judged .half, w .judged .upto, w .judged .room)
-      half (Refused r) w e = never r e
+      half (Refused r) w e = never-fine e

@@ -10,6 +10,7 @@ use lib.Dec.{eqb}
 use borrow.Author.Tests.{ne-eqb, eq-eqb}
 use Rattle.refusal.specs.declared.Refusal.{Refusal}
 use Rattle.refusal.specs.Outcome.{Outcome, ok, refused, refusalOf, unless, then}
+use Rattle.refusal.specs.Tests.{and-true}
 use Rattle.space.specs.declared.Precision.{Precision}
 use Rattle.space.specs.declared.Plane.{Plane}
 use Rattle.job.specs.declared.Faces.{Faces}
@@ -25,7 +26,7 @@ use Rattle.job.specs.declared.CellLayout.{CellLayout}
 use Rattle.job.specs.declared.FacetLayout.{FacetLayout}
 use Rattle.job.specs.Records.{standing, spanned, runOf, facesOf, spanEnd, spanFaces, spanPoints, spanOf}
 use Rattle.job.specs.Read.{operated, layoutAs, layoutWith, layoutOn, operationOf, closing, operationAt, headed, layoutAfter, layoutOf, precisionAt, cellEnd, cellLayout, planeAt, facetEnd, facetHeaded, facetLayout, pointFrom, pointAt}
-use Rattle.job.specs.Runs.{and-left, run-in}
+use Rattle.job.specs.Runs.{run-in}
 use Rattle.job.specs.Sound.{head-short}
 
 -- ---- a test that fails, and one that holds
@@ -169,7 +170,7 @@ facet-headed-yes l t n o e h p q = q ∙ ap (facetEnd l) p ∙ yes-test (facetHe
 pub facet-points : (l : List ℕ) (t : Bool) (n : ℕ) → t ≡ facetHeaded l → t ≡ true → n ≡ runOf 2 24 (drop 114 l) → n < 65536
 unfolding facetHeaded
 facet-points l t n e h q =
-    omega (arith, head-short l (and-left (headed l) (standing 9 96 (drop 17 l)) (sym e ∙ h)), run-in l 114 2 24 n q)
+    omega (arith, head-short l (and-true (headed l) (standing 9 96 (drop 17 l)) (sym e ∙ h) .0), run-in l 114 2 24 n q)
 
 -- ---- a point past the bytes, and one within
 

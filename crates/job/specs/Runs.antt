@@ -9,6 +9,7 @@ use lib.ListN.{length, take, drop, getD, length-drop, drop-of-length-le, take-ap
 use lib.Seq.{drop-cons, drop-drop, length-take-le}
 use lib.Dec.{eqb, leb}
 use borrow.Author.Tests.{le-leb, lt-leb, leb-true, eqb-true}
+use Rattle.refusal.specs.Tests.{and-true}
 use Rattle.job.specs.declared.Faces.{Faces}
 use Rattle.job.specs.Records.{standing, oneMore, runAfter, runOf, oneFace, facesAfter, total, facesOf}
 
@@ -19,14 +20,6 @@ and-no false = refl
 and-yes : (b : Bool) → b ≡ (b && true)
 and-yes true = refl
 and-yes false = refl
-
-pub and-left : (a b : Bool) → (a && b) ≡ true → a ≡ true
-and-left true b e = refl
-and-left false b e = e
-
-pub and-right : (a b : Bool) → (a && b) ≡ true → b ≡ true
-and-right true b e = e
-and-right false b e = let z : false ≡ true = e in cc
 
 -- ---- a record at a place
 
@@ -49,7 +42,7 @@ stands-here l at k n h m =
 pub stands-whole : (k n : ℕ) (s : List ℕ) → standing k n s ≡ true → n < length s
 unfolding standing
 stands-whole k n [] e = let z : _≡_ {A = ℕ} 0 1 = cc in omega arith
-stands-whole k n (b ∷ s) e = omega (arith, leb-true n (length s) (and-right (eqb b k) (leb n (length s)) e))
+stands-whole k n (b ∷ s) e = omega (arith, leb-true n (length s) (and-true (eqb b k) (leb n (length s)) e .1))
 
 pub stands-within : (l : List ℕ) (at k n : ℕ) → standing k n (drop at l) ≡ true → at + n < length l
 stands-within l at k n e = omega (arith, stands-whole k n (drop at l) e, length-drop at l)
@@ -63,7 +56,7 @@ pub stands-parts : (k n : ℕ) (s : List ℕ) → standing k n s ≡ true → s 
 unfolding standing
 stands-parts k n [] e = let z : false ≡ true = e in cc
 stands-parts k n (b ∷ s) e =
-    let q : b ≡ k = eqb-true b k (and-left (eqb b k) (leb n (length s)) e) in
+    let q : b ≡ k = eqb-true b k (and-true (eqb b k) (leb n (length s)) e .0) in
     rw (q, take-append-drop n s) refl
 
 pub stands-body : (k n : ℕ) (s : List ℕ) → standing k n s ≡ true → length (take n (drop 1 s)) ≡ n

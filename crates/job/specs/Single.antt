@@ -1,24 +1,26 @@
 -- One solid alone, and one facet: sound and complete, by the parts of a job.
 use mathlib.Core.Path.{_≡_, refl, sym, ap, subst, _∙_}
-use mathlib.Core.Bool.{true}
+use mathlib.Core.Bool.{true, not}
 use mathlib.Core.List.{List, [], _∷_, _++_}
 use Prim.Native.Nat.{ℕ, _+_, _*_, _≤_}
 use native.Mathlib.Omega.{arith}
 use lib.ListN.{length, take, drop, length-drop, length-append, drop-of-length-le}
 use lib.Seq.{drop-drop, drop-at, take-at}
 use lib.Dec.{eqb}
-use borrow.Author.Tests.{eq-eqb, eqb-true}
+use borrow.Author.Tests.{eq-eqb, eqb-true, not-false}
 use Rattle.refusal.specs.Outcome.{ok, then}
+use Rattle.refusal.specs.Laws.{same-ok, then-ok, unless-ok}
+use Rattle.refusal.specs.Tests.{and-true}
 use Rattle.job.specs.declared.Span.{Span}
 use Rattle.job.specs.declared.CellLayout.{CellLayout}
 use Rattle.job.specs.declared.FacetLayout.{FacetLayout}
 use Rattle.job.specs.Records.{standing, runOf, runAfter, spanOf, bodies}
 use Rattle.job.specs.Bytes.{recordsTo, solidTo, precisionOf, spotOf, planeOf, Single, IsCell, Facet, IsFacet}
 use Rattle.job.specs.Read.{headed, precisionAt, bodiesAt, solidAt, spotAt, planeAt, cellEnd, cellLayout, cellAt, readCell, facetEnd, facetHeaded, facetLayout, facetAt, readFacet}
-use Rattle.job.specs.Runs.{and-left, and-right, stands-parts, stands-body}
+use Rattle.job.specs.Runs.{stands-parts, stands-body}
 use Rattle.job.specs.Parts.{stands-made, records-sound, sized-sound, length-records, records-counted, records-kept, solid-sound, placesOf, solid-complete, solid-rest, solid-kept}
 use Rattle.job.specs.Points.{span-placed}
-use Rattle.job.specs.Sound.{went, let-through, beyond, same-ok, float-within, precision-same, head-stands, head-short, head-made, head-rest, head-body}
+use Rattle.job.specs.Sound.{float-within, precision-same, head-stands, head-short, head-made, head-rest, head-body}
 
 nothing-left : (l : List ℕ) (at : ℕ) → length l ≡ at → drop at l ≡ []
 nothing-left l at e = let h : length l ≤ at = omega arith in drop-of-length-le l h
@@ -47,18 +49,20 @@ parts-are l a h p n =
 cell-layout-sound : (l : List ℕ) (y : CellLayout) → cellLayout l ≡ ok y → IsCell l (cellAt l y)
 unfolding cellLayout cellEnd
 cell-layout-sound l y e =
-    let h = let-through (headed l) (then (spanOf l 17) (cellEnd l)) y e in
-    let f = went (spanOf l 17) (cellEnd l) y (beyond (headed l) (then (spanOf l 17) (cellEnd l)) y e) in
-    let a = f .it in
+    let u = unless-ok (not (headed l)) 1 (then (spanOf l 17) (cellEnd l)) y e in
+    let h = not-false (headed l) (u .0) in
+    let f = then-ok (spanOf l 17) (cellEnd l) y (u .1) in
+    let a = f .0 in
     let x : CellLayout = record { precision = precisionAt l 1; solid = a } in
-    let n : length l ≡ a .end = eqb-true (length l) (a .end) (let-through (eqb (length l) (a .end)) (ok x) y (f .on)) in
-    subst (λ v. IsCell l (cellAt l v)) (same-ok x y (beyond (eqb (length l) (a .end)) (ok x) y (f .on))) (parts-are l a h (f .made) n)
+    let v = unless-ok (not (eqb (length l) (a .end))) 1 (ok x) y (f .2) in
+    let n : length l ≡ a .end = eqb-true (length l) (a .end) (not-false (eqb (length l) (a .end)) (v .0)) in
+    subst (λ v. IsCell l (cellAt l v)) (same-ok (v .1)) (parts-are l a h (f .1) n)
 
 pub cell-sound : (l : List ℕ) (j : Single) → readCell l ≡ ok j → IsCell l j
 unfolding readCell
 cell-sound l j e =
-    let w = went (cellLayout l) (λ y. ok (cellAt l y)) j e in
-    subst (λ v. IsCell l v) (same-ok (cellAt l (w .it)) j (w .on)) (cell-layout-sound l (w .it) (w .made))
+    let w = then-ok (cellLayout l) (λ y. ok (cellAt l y)) j e in
+    subst (λ v. IsCell l v) (same-ok (w .2)) (cell-layout-sound l (w .0) (w .1))
 
 pub cell-complete : (l : List ℕ) (j : Single) → IsCell l j → readCell l ≡ ok j
 unfolding readCell cellLayout cellEnd cellAt solidAt placesOf
@@ -95,9 +99,9 @@ facet-parts : (l : List ℕ) → facetHeaded l ≡ true → length l ≡ 114 + 2
 unfolding facetHeaded facetAt
 facet-parts l h n =
     let c = runOf 2 24 (drop 114 l) in
-    let hd = and-left (headed l) (standing 9 96 (drop 17 l)) h in
+    let hd = and-true (headed l) (standing 9 96 (drop 17 l)) h .0 in
     let s = head-stands l hd in
-    let p = and-right (headed l) (standing 9 96 (drop 17 l)) h in
+    let p = and-true (headed l) (standing 9 96 (drop 17 l)) h .1 in
     let d : drop 1 (drop 17 l) ≡ drop 18 l = drop-drop 1 17 l in
     let r : drop 97 (drop 17 l) ≡ drop 114 l = drop-drop 97 17 l in
     let z : 114 + c * 25 ≡ 114 + 25 * c = omega arith in
@@ -123,16 +127,17 @@ facet-layout-sound : (l : List ℕ) (y : FacetLayout) → facetLayout l ≡ ok y
 unfolding facetLayout facetEnd
 facet-layout-sound l y e =
     let c = runOf 2 24 (drop 114 l) in
-    let h = let-through (facetHeaded l) (facetEnd l c) y e in
-    let g : facetEnd l c ≡ ok y = beyond (facetHeaded l) (facetEnd l c) y e in
-    let n : length l ≡ 114 + 25 * c = eqb-true (length l) (114 + 25 * c) (let-through (eqb (length l) (114 + 25 * c)) (ok (facetOn l c)) y g) in
-    subst (λ v. IsFacet l (facetAt l v)) (same-ok (facetOn l c) y (beyond (eqb (length l) (114 + 25 * c)) (ok (facetOn l c)) y g)) (facet-parts l h n)
+    let u = unless-ok (not (facetHeaded l)) 1 (facetEnd l c) y e in
+    let h = not-false (facetHeaded l) (u .0) in
+    let w = unless-ok (not (eqb (length l) (114 + 25 * c))) 1 (ok (facetOn l c)) y (u .1) in
+    let n : length l ≡ 114 + 25 * c = eqb-true (length l) (114 + 25 * c) (not-false (eqb (length l) (114 + 25 * c)) (w .0)) in
+    subst (λ v. IsFacet l (facetAt l v)) (same-ok (w .1)) (facet-parts l h n)
 
 pub facet-sound : (l : List ℕ) (j : Facet) → readFacet l ≡ ok j → IsFacet l j
 unfolding readFacet
 facet-sound l j e =
-    let w = went (facetLayout l) (λ y. ok (facetAt l y)) j e in
-    subst (λ v. IsFacet l v) (same-ok (facetAt l (w .it)) j (w .on)) (facet-layout-sound l (w .it) (w .made))
+    let w = then-ok (facetLayout l) (λ y. ok (facetAt l y)) j e in
+    subst (λ v. IsFacet l v) (same-ok (w .2)) (facet-layout-sound l (w .0) (w .1))
 
 pub facet-complete : (l : List ℕ) (j : Facet) → IsFacet l j → readFacet l ≡ ok j
 unfolding readFacet facetLayout facetEnd facetHeaded facetAt runAfter

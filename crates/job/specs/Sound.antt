@@ -8,9 +8,11 @@ use lib.ListN.{length, take, drop, getD, length-drop}
 use lib.Seq.{take-take, drop-drop, drop-at, take-at, getD-drop}
 use lib.Dec.{eqb, leb}
 use lib.Ieee.{ofBits, binary64}
-use borrow.Author.Tests.{le-leb, leb-true, eq-eqb, eqb-true}
+use borrow.Author.Tests.{le-leb, leb-true, eq-eqb, eqb-true, not-false}
 use Rattle.refusal.specs.declared.Refusal.{Refusal}
 use Rattle.refusal.specs.Outcome.{Outcome, ok, refused, refuse, refusalOf, then, unless}
+use Rattle.refusal.specs.Laws.{same-ok, then-ok, unless-ok}
+use Rattle.refusal.specs.Tests.{and-true}
 use Rattle.words.specs.Little.{little, wordAt, floatAt}
 use Rattle.job.specs.declared.Operation.{Operation}
 use Rattle.job.specs.declared.Operation.the-variants.{Intersection, Difference, Union}
@@ -20,30 +22,8 @@ use Rattle.job.specs.declared.Layout.{Layout}
 use Rattle.job.specs.Records.{standing, runOf, facesOf, spanEnd, spanFaces, spanPoints, spanOf}
 use Rattle.job.specs.Read.{headed, precisionAt, operationOf, closing, operationAt, layoutAs, layoutWith, layoutOn, layoutAfter, layoutOf, bodiesAt, solidAt, jobAt, readJob}
 use Rattle.job.specs.Bytes.{JobBodies, solidTo, operationByte, jobBytes, JobSized, precisionOf, Job, jobOf, IsJob}
-use Rattle.job.specs.Runs.{and-left, and-right, stands-parts, stands-body}
+use Rattle.job.specs.Runs.{stands-parts, stands-body}
 use Rattle.job.specs.Parts.{stands-made, solid-sound, placesOf, solid-complete, solid-rest, solid-kept}
-
--- ---- an outcome taken apart
-
-pub record Went {A B : Type 0} (o : Outcome A) (f : A → Outcome B) (y : B) : Type 0 where
-  pub it : A
-  pub made : o ≡ ok it
-  pub on : f it ≡ ok y
-
-pub went : {A B : Type 0} (o : Outcome A) (f : A → Outcome B) (y : B) → then o f ≡ ok y → Went o f y
-went (ok a) f y e = record { it = a; made = refl; on = e }
-went (refused r) f y e = let z : _≡_ {A = ℕ} 0 1 = cc in absurd (omega arith)
-
-pub let-through : {A : Type 0} (b : Bool) (o : Outcome A) (y : A) → unless (not b) 1 o ≡ ok y → b ≡ true
-let-through true o y e = refl
-let-through false o y e = cc
-
-pub beyond : {A : Type 0} (b : Bool) (o : Outcome A) (y : A) → unless (not b) 1 o ≡ ok y → o ≡ ok y
-beyond true o y e = e
-beyond false o y e = cc
-
-pub same-ok : {A : Type 0} (x y : A) → ok x ≡ ok y → x ≡ y
-same-ok x y e = cc
 
 -- ---- a part of a part
 
@@ -66,11 +46,11 @@ precision-same l = rw (float-within l 1 16 0 1 (omega arith) refl, float-within 
 
 pub head-stands : (l : List ℕ) → headed l ≡ true → standing 1 16 l ≡ true
 unfolding headed
-head-stands l e = and-right (leb (length l) 32768) (standing 1 16 l) e
+head-stands l e = and-true (leb (length l) 32768) (standing 1 16 l) e .1
 
 pub head-short : (l : List ℕ) → headed l ≡ true → length l ≤ 32768
 unfolding headed
-head-short l e = leb-true (length l) 32768 (and-left (leb (length l) 32768) (standing 1 16 l) e)
+head-short l e = leb-true (length l) 32768 (and-true (leb (length l) 32768) (standing 1 16 l) e .0)
 
 pub head-made : (l b s : List ℕ) → length b ≡ 16 → l ≡ 1 ∷ b ++ s → length l ≤ 32768 → headed l ≡ true
 unfolding headed
@@ -114,11 +94,12 @@ two-left (x ∷ y ∷ z ∷ s) b e g t = absurd (omega arith)
 operation-sound : (l : List ℕ) (at : ℕ) (o : Operation) → operationAt l at ≡ ok o → drop at l ≡ 6 ∷ operationByte o ∷ []
 unfolding operationAt closing
 operation-sound l at o e =
-    let t = let-through (closing l at) (operationOf (getD l (at + 1) 0)) o e in
-    let n : length l ≡ at + 2 = eqb-true (length l) (at + 2) (and-right (standing 6 1 (drop at l)) (eqb (length l) (at + 2)) t) in
-    let b : getD l (at + 1) 0 ≡ operationByte o = byte-of (getD l (at + 1) 0) o (beyond (closing l at) (operationOf (getD l (at + 1) 0)) o e) in
+    let u = unless-ok (not (closing l at)) 1 (operationOf (getD l (at + 1) 0)) o e in
+    let t = not-false (closing l at) (u .0) in
+    let n : length l ≡ at + 2 = eqb-true (length l) (at + 2) (and-true (standing 6 1 (drop at l)) (eqb (length l) (at + 2)) t .1) in
+    let b : getD l (at + 1) 0 ≡ operationByte o = byte-of (getD l (at + 1) 0) o (u .1) in
     two-left (drop at l) (operationByte o) (omega (arith, length-drop at l)) (getD-drop at l 1 0 ∙ b)
-    (and-left (standing 6 1 (drop at l)) (eqb (length l) (at + 2)) t)
+    (and-true (standing 6 1 (drop at l)) (eqb (length l) (at + 2)) t .0)
 
 operation-complete : (l : List ℕ) (at : ℕ) (o : Operation) → drop at l ≡ 6 ∷ operationByte o ∷ [] → operationAt l at ≡ ok o
 unfolding operationAt closing
@@ -157,19 +138,20 @@ parts-sound l a b o h p q r =
 layout-sound : (l : List ℕ) (y : Layout) → layoutOf l ≡ ok y → IsJob l (jobAt l y)
 unfolding layoutOf layoutAfter layoutOn
 layout-sound l y e =
-    let h = let-through (headed l) (then (spanOf l 17) (layoutAfter l)) y e in
-    let f = went (spanOf l 17) (layoutAfter l) y (beyond (headed l) (then (spanOf l 17) (layoutAfter l)) y e) in
-    let g = went (spanOf l (f .it .end)) (layoutOn l (f .it)) y (f .on) in
-    let o = went (operationAt l (g .it .end)) (layoutWith l (f .it) (g .it)) y (g .on) in
-    let k : layoutAs l (f .it) (g .it) (o .it) ≡ y = same-ok (layoutAs l (f .it) (g .it) (o .it)) y (o .on) in
-    subst (λ v. IsJob l (jobAt l v)) k (parts-sound l (f .it) (g .it) (o .it) h (f .made) (g .made) (o .made))
+    let u = unless-ok (not (headed l)) 1 (then (spanOf l 17) (layoutAfter l)) y e in
+    let h = not-false (headed l) (u .0) in
+    let f = then-ok (spanOf l 17) (layoutAfter l) y (u .1) in
+    let g = then-ok (spanOf l (f .0 .end)) (layoutOn l (f .0)) y (f .2) in
+    let o = then-ok (operationAt l (g .0 .end)) (layoutWith l (f .0) (g .0)) y (g .2) in
+    let k : layoutAs l (f .0) (g .0) (o .0) ≡ y = same-ok (o .2) in
+    subst (λ v. IsJob l (jobAt l v)) k (parts-sound l (f .0) (g .0) (o .0) h (f .1) (g .1) (o .1))
 
 -- what is read as a job is one, and means what was read
 pub sound : (l : List ℕ) (j : Job) → readJob l ≡ ok j → IsJob l j
 unfolding readJob
 sound l j e =
-    let w = went (layoutOf l) (λ y. ok (jobAt l y)) j e in
-    subst (λ v. IsJob l v) (same-ok (jobAt l (w .it)) j (w .on)) (layout-sound l (w .it) (w .made))
+    let w = then-ok (layoutOf l) (λ y. ok (jobAt l y)) j e in
+    subst (λ v. IsJob l v) (same-ok (w .2)) (layout-sound l (w .0) (w .1))
 
 module _ (l : List ℕ) (w : JobBodies) (z : JobSized w) (e : l ≡ jobBytes w) where
   first-here : drop 17 l ≡ solidTo (w .first) (solidTo (w .second) (6 ∷ operationByte (w .operation) ∷ []))

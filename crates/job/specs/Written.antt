@@ -62,9 +62,9 @@ pub record HeldJob (j : Job) : Type 0 where
 
 -- ---- the lengths
 
-point-sized : (p : Point3) → length (pointBytes p) ≡ 24
+pub length-point : (p : Point3) → length (pointBytes p) ≡ 24
 unfolding pointBytes
-point-sized p =
+length-point p =
     omega (
       arith,
       length-append (floatBytes (p .x)) (floatBytes (p .y) ++ floatBytes (p .z)),
@@ -76,7 +76,7 @@ point-sized p =
 
 points-sized : (ps : List Point3) → Sized 24 (map pointBytes ps)
 points-sized [] = none
-points-sized (p ∷ ps) = more (point-sized p) (points-sized ps)
+points-sized (p ∷ ps) = more (length-point p) (points-sized ps)
 
 face-sized : (f : List ℕ) → Sized 2 (map (digits 2) f)
 face-sized [] = none

@@ -10,12 +10,10 @@ use Rattle.refusal.specs.declared.Refusal.{Refusal}
 use Rattle.refusal.specs.declared.Verdict.{Verdict}
 use Rattle.refusal.specs.declared.Verdict.the-variants as D
 use Rattle.refusal.specs.Outcome.{Outcome, ok, refused, refusalOf, then, unless}
-use Rattle.refusal.specs.Laws.{stop, go}
+use Rattle.refusal.specs.Laws.{stop, go, same-ok, never-ok, then-ok, unless-ok, never-fine}
 use Rattle.space.specs.Vector.{fairPrecision}
 use Rattle.space.specs.Shapes.{Cell}
-use Rattle.polygon.specs.Members.{same-ok, never-ok, then-ok}
 use Rattle.room.specs.Rooms.{cellAt, countsAt}
-use Rattle.room.specs.Steps.{unless-ok}
 use Rattle.job.specs.declared.Layout.{Layout}
 use Rattle.job.specs.declared.Laid.{Laid}
 use Rattle.job.specs.declared.Laid.the-variants as L
@@ -109,14 +107,6 @@ as-refused n m v r e = ap (λ w. pairAs n w m) (sym e)
 -- ---- the two solids
 
 -- what was taken tells the outcome
-Fair : Verdict → Type 0
-Fair D.Fine = Unit {0}
-Fair (D.Refused x) = ⊥
-
-never-fine : {A : Type 0} {q : Refusal} → D.Fine ≡ D.Refused q → A
-unfolding Fair
-never-fine h = absurd (subst Fair h tt)
-
 reason : Refusal → Verdict → Refusal
 reason p D.Fine = p
 reason p (D.Refused x) = x
@@ -125,14 +115,14 @@ same-refused : {p q : Refusal} → D.Refused p ≡ D.Refused q → p ≡ q
 unfolding reason
 same-refused {p} h = ap (reason p) h
 
-taken-fine : (o : Outcome Cell) (r : Taken) → r ≡ takenOf o → r .verdict ≡ D.Fine → (c : Cell) × (o ≡ ok c) × (r .faces ≡ length c)
+pub taken-fine : (o : Outcome Cell) (r : Taken) → r ≡ takenOf o → r .verdict ≡ D.Fine → (c : Cell) × (o ≡ ok c) × (r .faces ≡ length c)
 unfolding takenOf
 taken-fine (ok c) r e v = (c, refl, ap (λ x. x .faces) e)
-taken-fine (refused q) r e v = never-fine (sym v ∙ ap (λ x. x .verdict) e)
+taken-fine (refused q) r e v = never-fine (sym (ap (λ x. x .verdict) e) ∙ v)
 
-taken-not : (o : Outcome Cell) (r : Taken) (q : Refusal) → r ≡ takenOf o → r .verdict ≡ D.Refused q → o ≡ refused q
+pub taken-not : (o : Outcome Cell) (r : Taken) (q : Refusal) → r ≡ takenOf o → r .verdict ≡ D.Refused q → o ≡ refused q
 unfolding takenOf
-taken-not (ok c) r q e v = never-fine (sym (ap (λ x. x .verdict) e) ∙ v)
+taken-not (ok c) r q e v = never-fine (sym v ∙ ap (λ x. x .verdict) e)
 taken-not (refused p) r q e v = ap refused (same-refused (sym (ap (λ x. x .verdict) e) ∙ v))
 
 module _ (l : List ℕ) (y : Layout) (a : List Float) (held : List ℕ) (b : List Float) (counts : List ℕ) where
@@ -188,11 +178,11 @@ module _ (l : List ℕ) (y : Layout) (a : List Float) (held : List ℕ) (b : Lis
 pair-fine : (o : Outcome Both) (r : Pair) → r ≡ pairOf o → r .verdict ≡ D.Fine → (p : Both) × (o ≡ ok p)
 unfolding pairOf
 pair-fine (ok p) r e v = (p, refl)
-pair-fine (refused q) r e v = never-fine (sym v ∙ ap (λ x. x .verdict) e)
+pair-fine (refused q) r e v = never-fine (sym (ap (λ x. x .verdict) e) ∙ v)
 
 pair-not : (o : Outcome Both) (r : Pair) (q : Refusal) → r ≡ pairOf o → r .verdict ≡ D.Refused q → o ≡ refused q
 unfolding pairOf
-pair-not (ok p) r q e v = never-fine (sym (ap (λ x. x .verdict) e) ∙ v)
+pair-not (ok p) r q e v = never-fine (sym v ∙ ap (λ x. x .verdict) e)
 pair-not (refused p) r q e v = ap refused (same-refused (sym (ap (λ x. x .verdict) e) ∙ v))
 
 module _ (l : List ℕ) (y : Layout) (r : Pair) (a : List Float) (held : List ℕ) (b : List Float) (counts : List ℕ) (T : TookBoth (bothOf l y) r a held b counts) where

@@ -1,17 +1,8 @@
--- Laws of tests that are joined, and of what is told where a verdict is fine.
-use mathlib.Core.Path.{_≡_, refl, sym, ap, _∙_}
-use mathlib.Core.Bool.{Bool, true, false, _&&_}
+-- Laws of what is told where a verdict is fine.
+use mathlib.Core.Path.{_≡_, sym, ap, _∙_}
 use Rattle.refusal.specs.declared.Verdict.{Verdict}
 use Rattle.refusal.specs.declared.Verdict.the-variants.{Fine}
 use Rattle.lent.specs.Lent.{numberBy, whereFine}
-
-pub and-left : (a b : Bool) → (a && b) ≡ true → a ≡ true
-and-left true b e = refl
-and-left false b e = e
-
-pub and-right : (a b : Bool) → (a && b) ≡ true → b ≡ true
-and-right true b e = e
-and-right false b e = cc
 
 -- what is stored where the verdict is fine
 pub fine-number : (v : Verdict) → v ≡ Fine → 0 ≡ numberBy v

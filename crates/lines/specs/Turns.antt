@@ -10,9 +10,9 @@ use lib.ListN.{length, take, drop, getD, set, length-set, length-append, length-
 use lib.Seq.{sets, take-all, drop-cons, drop-drop, getD-drop}
 use lib.Dec.{T, ltb}
 use borrow.Author.Tests.{lt-ltb, ltb-true}
+use Rattle.refusal.specs.Tests.{and-true}
 use Rattle.lists.specs.Laws.{cond-yes, cond-no}
 use Rattle.room.specs.Laws.{sets-append}
-use Rattle.topology.specs.Chains.{and-true}
 use Rattle.lines.specs.declared.Spot.{Spot}
 use Rattle.lines.specs.declared.Turned.{Turned}
 use Rattle.lines.specs.Text.{numeral, decimal, answerLine, way, bodyLine, shellLine, count, behind, skip, walk, linesOf}

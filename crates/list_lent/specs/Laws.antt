@@ -1,6 +1,6 @@
 -- Laws of the tests on the slices, in the words of the code.
 use mathlib.Core.Path.{_≡_, refl, sym, ap, _∙_, subst}
-use mathlib.Core.Bool.{Bool, true, false, cond, not, _&&_}
+use mathlib.Core.Bool.{Bool, true, false, cond, not, _&&_, and-false}
 use mathlib.Core.List.{List, _∷_}
 use Prim.Native.Nat.{ℕ, _+_, _-_, _*_, _≤_, _<_}
 use native.Mathlib.Omega.{arith}
@@ -10,18 +10,14 @@ use lib.Ieee.{Float}
 use borrow.Author.Tests.{leb-true, le-leb, lt-leb}
 use Rattle.refusal.specs.declared.Verdict.the-variants.{Fine}
 use Rattle.refusal.specs.Outcome.{ok, refused, refusalOf, unless}
+use Rattle.refusal.specs.Laws.{same-ok}
+use Rattle.refusal.specs.Tests.{and-true}
 use Rattle.lists.specs.Laws.{next, done}
-use Rattle.lent.specs.Laws.{and-left, and-right}
 use Rattle.stack.specs.declared.Stack.{Stack}
 use Rattle.stack.specs.Stacks.{cellsAt, stackOf, Lies, Listed}
 use Rattle.stack.specs.Laws.{listed-refused}
-use Rattle.polygon.specs.Members.{same-ok}
 use Rattle.list_lent.specs.Lent.{among, allAmong, total, sums, totalBy, facesStand, stands, listIn}
 use Rattle.list_lent.specs.Lying.{lying, list-told}
-
-and-no : (b : Bool) → (b && false) ≡ false
-and-no true = refl
-and-no false = refl
 
 -- ---- a sum of numbers
 
@@ -66,7 +62,7 @@ module _ (low high most : ℕ) (s : List ℕ) (n sum i : ℕ) (more : i < n) (li
 
   pub adding-over : low ≤ x → x ≤ high → most - sum < x → most + 1 ≡ totalBy low high most (take n s)
   adding-over h g k =
-      sym (ap (λ b. cond b (sum + (x + total after)) (most + 1)) (and-no (allAmong low high after)))
+      sym (ap (λ b. cond b (sum + (x + total after)) (most + 1)) (and-false (allAmong low high after)))
       ∙ turn true true false (le-leb low x h) (le-leb x high g) (lt-leb (sum + (x + total after)) most (omega (arith, I .fits)))
 
   pub adding-step : low ≤ x → x ≤ high → x ≤ most - sum → Adding low high most s n (sum + x) (i + 1)
@@ -90,7 +86,7 @@ adding-end low high most s n sum i h I =
 module _ (low high most : ℕ) (l : List ℕ) (f : ℕ) where
   over-by : (b : Bool) → sums low high most l ≡ b → f ≡ cond b (total l) (most + 1) → most < f → sums low high most l ≡ false
   unfolding sums
-  over-by true e g h = absurd (omega (arith, leb-true (total l) most (and-right (allAmong low high l) (leb (total l) most) e), g))
+  over-by true e g h = absurd (omega (arith, leb-true (total l) most (and-true (allAmong low high l) (leb (total l) most) e .1), g))
   over-by false e g h = e
 
   total-over : f ≡ totalBy low high most l → most < f → sums low high most l ≡ false
@@ -165,5 +161,5 @@ module _ (room k : ℕ) (d : List Float) (n z : List ℕ) (r : Stack) where
                 let t = total-fits 3 128 room (take f n) c sum fit in
                 let e : listIn room k d n z ≡ ok (cellsAt d 0 n (take k z)) = ap (λ b. unless (not b) 64 (ok (cellsAt d 0 n (take k z)))) (from-floats true (le-leb (12 * f + 3 * c) (length d) a)) in
                 let L : Lies room (cellsAt d 0 n (take k z)) d n z =
-                lying room d n z k f c many within (and-left (allAmong 1 128 (take k z)) (leb (total (take k z)) room) (s .0)) (s .1) (and-left (allAmong 3 128 (take f n)) (leb (total (take f n)) room) (t .0)) (t .1) fit a in
+                lying room d n z k f c many within (and-true (allAmong 1 128 (take k z)) (leb (total (take k z)) room) (s .0) .0) (s .1) (and-true (allAmong 3 128 (take f n)) (leb (total (take f n)) room) (t .0) .0) (t .1) fit a in
                 record { is = h ∙ sym (list-told d n z k f c many within (s .1) (t .1)) ∙ ap stackOf (sym e); lies = λ cs g. subst (λ x. Lies room x d n z) (same-ok (sym e ∙ g)) L }

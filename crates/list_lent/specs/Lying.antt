@@ -12,12 +12,13 @@ use lib.Ieee.{Float, nan}
 use borrow.Author.Tests.{leb-true}
 use Rattle.refusal.specs.declared.Verdict.the-variants.{Fine}
 use Rattle.refusal.specs.Outcome.{ok}
-use Rattle.lent.specs.Laws.{and-left, and-right}
+use Rattle.refusal.specs.Tests.{and-true}
 use Rattle.space.specs.Shapes.{Cell, corners, allCorners}
 use Rattle.polygon.specs.Memory.{floats, floatsOf, pointAt, pointsAt}
 use Rattle.polygon.specs.Members.{All}
+use Rattle.polygon.specs.MemoryLaws.{length-pointsAt}
 use Rattle.room.specs.Rooms.{planeFloats, planeAt, faceFloats, faceAt, cellFloats, cellCounts, cellAt, Small}
-use Rattle.room.specs.Laws.{sets-append, sets-plane, length-pointsAt, length-floatsOf, length-cellCounts, corners-cons, corners-none}
+use Rattle.room.specs.Laws.{sets-append, sets-plane, length-floatsOf, corners-cons, corners-none, cell-counts, length-cellAt}
 use Rattle.clip.specs.Clips.{Wide}
 use Rattle.indexed.specs.Laws.{points-kept}
 use Rattle.stack.specs.Stacks.{cellsFloats, cellsCounts, cellsSizes, behind, cellsAt, stackOf, Front, Sound, Lies}
@@ -26,24 +27,16 @@ use Rattle.list_lent.specs.Lent.{among, allAmong, total}
 
 -- ---- the counts
 
-counts-of : (d : List Float) (at : ℕ) (ns : List ℕ) → cellCounts (cellAt d at ns) ≡ ns
-unfolding cellAt cellCounts
-counts-of d at [] = refl
-counts-of d at (n ∷ ns) = ap₂ (λ x l. x ∷ l) (length-pointsAt d (at + 12) n) (counts-of d (at + 12 + 3 * n) ns)
-
-faces-of : (d : List Float) (at : ℕ) (ns : List ℕ) → length (cellAt d at ns) ≡ length ns
-faces-of d at ns = sym (length-cellCounts (cellAt d at ns)) ∙ ap length (counts-of d at ns)
-
 cells-counts : (d : List Float) (at : ℕ) (n ms : List ℕ) → cellsCounts (cellsAt d at n ms) ≡ take (total ms) n
 unfolding cellsAt cellsCounts total
 cells-counts d at n [] = refl
-cells-counts d at n (m ∷ ms) = ap₂ (λ a b. a ++ b) (counts-of d at (take m n)) (cells-counts d (behind at (take m n)) (drop m n) ms) ∙ sym (take-add m (total ms) n)
+cells-counts d at n (m ∷ ms) = ap₂ (λ a b. a ++ b) (cell-counts d at (take m n)) (cells-counts d (behind at (take m n)) (drop m n) ms) ∙ sym (take-add m (total ms) n)
 
 cells-sizes : (d : List Float) (at : ℕ) (n ms : List ℕ) → total ms ≤ length n → cellsSizes (cellsAt d at n ms) ≡ ms
 unfolding cellsAt cellsSizes total
 cells-sizes d at n [] h = refl
 cells-sizes d at n (m ∷ ms) h =
-    ap₂ (λ x l. x ∷ l) (faces-of d at (take m n) ∙ length-take-le m n (omega arith)) (cells-sizes d (behind at (take m n)) (drop m n) ms (omega (arith, length-drop m n)))
+    ap₂ (λ x l. x ∷ l) (length-cellAt d at (take m n) ∙ length-take-le m n (omega arith)) (cells-sizes d (behind at (take m n)) (drop m n) ms (omega (arith, length-drop m n)))
 
 -- ---- the corners
 
@@ -95,7 +88,7 @@ unfolding cellsAt cellsFloats
 cells-kept s at n [] = refl
 cells-kept s at n (m ∷ ms) =
     let c = cellAt s at (take m n) in
-    let e : at + length (cellFloats c) ≡ behind at (take m n) = sym (ap (behind at) (sym (counts-of s at (take m n))) ∙ behind-cell c at) in
+    let e : at + length (cellFloats c) ≡ behind at (take m n) = sym (ap (behind at) (sym (cell-counts s at (take m n))) ∙ behind-cell c at) in
     sym (sets-append s at (cellFloats c) (cellsFloats (cellsAt s (behind at (take m n)) (drop m n) ms)))
     ∙ ap₂ (λ l k. sets l k (cellsFloats (cellsAt s (behind at (take m n)) (drop m n) ms))) (cell-kept s at (take m n)) e
     ∙ cells-kept s (behind at (take m n)) (drop m n) ms
@@ -106,17 +99,17 @@ both-among : (low high : ℕ) (a b : List ℕ) → allAmong low high (a ++ b) �
 unfolding allAmong
 both-among low high [] b e = (refl, e)
 both-among low high (x ∷ a) b e =
-    let h = both-among low high a b (and-right (among low high x) (allAmong low high (a ++ b)) e) in
-    (ap₂ (λ p q. p && q) (and-left (among low high x) (allAmong low high (a ++ b)) e) (h .0), h .1)
+    let h = both-among low high a b (and-true (among low high x) (allAmong low high (a ++ b)) e .1) in
+    (ap₂ (λ p q. p && q) (and-true (among low high x) (allAmong low high (a ++ b)) e .0) (h .0), h .1)
 
 cell-bounds : (d : List Float) (at : ℕ) (ns : List ℕ) → allAmong 3 128 ns ≡ true → Wide (cellAt d at ns) × Small (cellAt d at ns)
 unfolding cellAt All allAmong among
 cell-bounds d at [] e = (tt, tt)
 cell-bounds d at (n ∷ ns) e =
-    let h = and-left (leb 3 n && leb n 128) (allAmong 3 128 ns) e in
-    let g = cell-bounds d (at + 12 + 3 * n) ns (and-right (leb 3 n && leb n 128) (allAmong 3 128 ns) e) in
+    let h = and-true (leb 3 n && leb n 128) (allAmong 3 128 ns) e .0 in
+    let g = cell-bounds d (at + 12 + 3 * n) ns (and-true (leb 3 n && leb n 128) (allAmong 3 128 ns) e .1) in
     let l = length-pointsAt d (at + 12) n in
-    ((omega (arith, l, leb-true 3 n (and-left (leb 3 n) (leb n 128) h)), g .0), (omega (arith, l, leb-true n 128 (and-right (leb 3 n) (leb n 128) h)), g .1))
+    ((omega (arith, l, leb-true 3 n (and-true (leb 3 n) (leb n 128) h .0)), g .0), (omega (arith, l, leb-true n 128 (and-true (leb 3 n) (leb n 128) h .1)), g .1))
 
 cells-sound : (d : List Float) (at : ℕ) (n ms : List ℕ) → total ms ≤ length n → allAmong 1 128 ms ≡ true → allAmong 3 128 (take (total ms) n) ≡ true → All Sound (cellsAt d at n ms)
 unfolding cellsAt All total allAmong among
@@ -124,9 +117,9 @@ cells-sound d at n [] h e g = tt
 cells-sound d at n (m ∷ ms) h e g =
     let u = both-among 3 128 (take m n) (take (total ms) (drop m n)) (ap (allAmong 3 128) (sym (take-add m (total ms) n)) ∙ g) in
     let b = cell-bounds d at (take m n) (u .0) in
-    let p = and-left (leb 1 m && leb m 128) (allAmong 1 128 ms) e in (
-      record { some = omega (arith, faces-of d at (take m n), length-take-le m n (omega arith), leb-true 1 m (and-left (leb 1 m) (leb m 128) p)); wide = b .0; small = b .1 },
-      cells-sound d (behind at (take m n)) (drop m n) ms (omega (arith, length-drop m n)) (and-right (leb 1 m && leb m 128) (allAmong 1 128 ms) e) (u .1),
+    let p = and-true (leb 1 m && leb m 128) (allAmong 1 128 ms) e .0 in (
+      record { some = omega (arith, length-cellAt d at (take m n), length-take-le m n (omega arith), leb-true 1 m (and-true (leb 1 m) (leb m 128) p .0)); wide = b .0; small = b .1 },
+      cells-sound d (behind at (take m n)) (drop m n) ms (omega (arith, length-drop m n)) (and-true (leb 1 m && leb m 128) (allAmong 1 128 ms) e .1) (u .1),
     )
 
 -- ---- the list

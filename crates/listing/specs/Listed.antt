@@ -81,9 +81,6 @@ module _ (d c : List ℕ) (g : ℕ) (s : Starts d c g) where
 -- ---- the steps of the code
 
 module _ (d c : List ℕ) (g o : ℕ) (s : Starts d c g) (h : o < g) where
-  pub part-one : getD c o 0 ≤ getD c (o + 1) 0
-  part-one = s .up o h
-
   pub part-three : getD c (o + 1) 0 ≤ getD c g 0
   part-three = starts-le d c g s (o + 1) g (omega arith) (omega arith)
 
@@ -105,7 +102,7 @@ module _ (d c : List ℕ) (g o : ℕ) (s : Starts d c g) (h : o < g) where
     l1 = length-slice (getD c o 0) (getD c (o + 1) 0) d (s .inn o h)
 
     l2 : length (slice 0 (getD c o 0) d) ≡ getD c o 0
-    l2 = length-slice 0 (getD c o 0) d (omega (arith, part-one, s .inn o h)) ∙ omega arith
+    l2 = length-slice 0 (getD c o 0) d (omega (arith, s .up o h, s .inn o h)) ∙ omega arith
 
     -- three parts, one behind another
     pub facets-listed : (e : List ℕ) → e ≡ appended (appended (appended out na (slice (getD c o 0) (getD c (o + 1) 0) d)) (na + (getD c (o + 1) 0 - getD c o 0)) (slice 0 (getD c o 0) d)) (na + getD c (o + 1) 0) (slice (getD c (o + 1) 0) (getD c g 0) d) →
@@ -115,7 +112,7 @@ module _ (d c : List ℕ) (g o : ℕ) (s : Starts d c g) (h : o < g) where
         let t : List ℕ = slice (getD c (o + 1) 0) (getD c g 0) d in
         let two : appended (appended out na s1) (na + (getD c (o + 1) 0 - getD c o 0)) s2 ≡ appended out na (s1 ++ s2) = append-more out na s1 (omega (arith, l1, part-three)) (na + (getD c (o + 1) 0 - getD c o 0)) s2 (omega (arith, l1)) in
         r ∙ ap (λ l. appended l (na + getD c (o + 1) 0) t) two
-        ∙ append-more out na (s1 ++ s2) (omega (arith, length-append s1 s2, l1, l2, part-one, part-three)) (na + getD c (o + 1) 0) t (omega (arith, length-append s1 s2, l1, l2, part-one))
+        ∙ append-more out na (s1 ++ s2) (omega (arith, length-append s1 s2, l1, l2, s .up o h, part-three)) (na + getD c (o + 1) 0) t (omega (arith, length-append s1 s2, l1, l2, s .up o h))
         ∙ ap (appended out na) (append-assoc s1 s2 t ∙ sym (facets-are d c g s o h))
 
   module _ (out : List ℕ) (ns : ℕ) (room : ns + g ≤ length out) where
@@ -128,6 +125,3 @@ module _ (d c : List ℕ) (g o : ℕ) (s : Starts d c g) (h : o < g) where
         r ∙ ap (λ l. appended l (ns + (o + 1)) t) two
         ∙ append-more out ns (s1 ++ s2) (omega (arith, length-append s1 s2, length-gaps c o 1, length-gaps c 0 o)) (ns + (o + 1)) t (omega (arith, length-append s1 s2, length-gaps c o 1, length-gaps c 0 o))
         ∙ ap (appended out ns) (append-assoc s1 s2 t ∙ sym (sizes-are d c g s o h))
-
-pub row-up : (d c : List ℕ) (g k : ℕ) → Starts d c g → k < g → getD c k 0 ≤ getD c (k + 1) 0
-row-up d c g k s h = s .up k h

@@ -8,7 +8,7 @@ use native.Mathlib.Nat.{not-suc-le-zero, le-of-suc-le-suc, mod-eq-of-lt, mod-sel
 use native.Mathlib.Decide.{decLt}
 use native.Mathlib.Numerals.{add-one}
 use lib.ListN.{length, take, drop, getD, set, replicate, length-take, length-append, length-map, drop-of-length-le}
-use lib.Seq.{drop-cons, getD-take, length-take-le, set-at}
+use lib.Seq.{drop-cons, getD-take, length-take-le, set-at, sets, sets-eq, take-at}
 use Rattle.lists.specs.Walks.{Pair, nextOr, pairsTo, cyclic}
 
 pub cond-yes {ℓ} : {A : Type ℓ} {b : Bool} {x : A} (y : A) → b ≡ true → x ≡ cond b x y
@@ -34,6 +34,11 @@ pub pad-set {ℓ} : {A : Type ℓ} (l : List A) (m : ℕ) (o q : A) → length l
 pad-set l m o q h =
     let k : m - length l ≡ suc (m - length (l ++ (q ∷ []))) = simp length-append (omega arith) in
     rw (k, set-at l o (replicate (m - length (l ++ (q ∷ []))) o) q (length l) refl, append-assoc)
+
+-- ---- what was stored at the front is there
+
+pub front-stored {ℓ} : {A : Type ℓ} (l s : List A) (m : ℕ) → m ≡ length l → length l ≤ length s → take m (sets s 0 l) ≡ l
+front-stored l s m e h = ap (take m) (sets-eq l s 0 (omega arith)) ∙ take-at l (drop (0 + length l) s) m (sym e)
 
 -- the length of an array field, from what the parameter's or the call's record says of it
 pub full {ℓ κ} : {A : Type ℓ} {B : Type κ} (f : A → B) (l : List A) (n : ℕ) → length (map f l) ≡ n → length l ≡ n

@@ -25,8 +25,9 @@ use Rattle.turns.specs.Turns.{orientationOf}
 use Rattle.outline.specs.declared.Outline.{Outline}
 use Rattle.outline.specs.declared.Outlined.{Outlined}
 use Rattle.polygon.specs.Memory.{pointAt, pointsAt}
+use Rattle.polygon.specs.MemoryLaws.{points-next, points-done, length-pointsAt}
 use Rattle.outline.specs.Project.{astray, facetOf, pointsOf, outline, outlined}
-use Rattle.outline.specs.Laws.{points-outline, next-point, points-done, length-points}
+use Rattle.outline.specs.Laws.{points-outline}
 use Rattle.ears.specs.declared.Active.{Active}
 use Rattle.ears.specs.declared.Triangle.{Triangle}
 use Rattle.ears.specs.declared.Block.{Block}
@@ -319,7 +320,7 @@ each-count f acc (x ∷ l) r e = count-next f acc l r (f x) (λ y q. each-count 
 
 -- the corners of a slice
 pub facet-size : (s : List Float) → length (facetOf s) ≡ length s / 3
-facet-size s = length-points s 0 (length s / 3)
+facet-size s = length-pointsAt s 0 (length s / 3)
 
 -- ---- one turn of the test of the numbers
 
@@ -327,7 +328,7 @@ pub finite-go : (s : List Float) (n i : ℕ) (fair : Bool) (q : Point3) (b : Boo
     → all finitePoint fair (pointsAt s (3 * i) (n - i)) ≡ all finitePoint (fair && b) (pointsAt s (3 * (i + 1)) (n - (i + 1)))
 unfolding all
 finite-go s n i fair q b h e f =
-    ap (all finitePoint fair) (next-point s n i h)
+    ap (all finitePoint fair) (points-next s n i h)
     ∙ ap (λ x. all finitePoint (fair && finitePoint x) (pointsAt s (3 * (i + 1)) (n - (i + 1)))) (sym e)
     ∙ ap (λ x. all finitePoint (fair && x) (pointsAt s (3 * (i + 1)) (n - (i + 1)))) (sym f)
 
@@ -336,4 +337,4 @@ finite-start s n = let e : n - 0 ≡ n = omega arith in ap (λ k. all finitePoin
 
 pub finite-end : (s : List Float) (n i : ℕ) (fair : Bool) → n ≤ i → all finitePoint fair (pointsAt s (3 * i) (n - i)) ≡ fair
 unfolding all
-finite-end s n i fair h = ap (all finitePoint fair) (points-done s n i h)
+finite-end s n i fair h = ap (all finitePoint fair) (points-done s n i (3 * i) h)

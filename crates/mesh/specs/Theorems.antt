@@ -1,6 +1,6 @@
 -- What holds of every answer of the mesh: its triangles are of three different corners and turn Positive, and how many there are.
 use mathlib.Core.Path.{_≡_, refl, sym, ap, _∙_, subst, subst⁻¹}
-use mathlib.Core.Bool.{Bool, true, false, not}
+use mathlib.Core.Bool.{not}
 use mathlib.Core.List.{List, [], _∷_, _++_}
 use Prim.Native.Nat.{ℕ, zero, suc, _+_, _-_, _%_, _≤_, _<_}
 use native.Mathlib.Omega.{arith}
@@ -11,7 +11,8 @@ use lib.Dec.{ltb}
 use borrow.Author.Tests.{ltb-false}
 use Rattle.refusal.specs.declared.Verdict.{Verdict}
 use Rattle.refusal.specs.declared.Verdict.the-variants.{Fine, Refused}
-use Rattle.refusal.specs.Outcome.{Outcome, ok, refused, then, unless, each}
+use Rattle.refusal.specs.Outcome.{Outcome, ok, refused, then, each}
+use Rattle.refusal.specs.Laws.{unless-ok}
 use Rattle.space.specs.declared.Precision.{Precision}
 use Rattle.space.specs.Shapes.{Face}
 use Rattle.turns.specs.declared.Projected.{Projected}
@@ -272,10 +273,6 @@ unfolding trianglesOf clippedOf
 triangles-mesh p ps ts g e = meshing-by p ps ts (clipAll p ps (begun (length ps))) refl g (given-ok (simpleOf p ps) (clippedOf p ps) ts e)
 
 -- ---- the mesh of a facet
-
-unless-ok : {A : Type 0} (b : Bool) (n : ℕ) (o : Outcome A) (a : A) → unless b n o ≡ ok a → (b ≡ false) × (o ≡ ok a)
-unless-ok false n o a e = (refl, e)
-unless-ok true n o a e = let z : _≡_ {A = ℕ} 0 1 = cc in absurd (omega arith)
 
 -- the corners in the coordinates of the plane, as many as there are, and what holds of their triangles
 pub record FacetMesh (p : Precision) (f : Face) (ts : List Triangle) : Type 0 where

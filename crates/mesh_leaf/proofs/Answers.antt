@@ -11,6 +11,7 @@ use lib.Dec.{leb, ltb}
 use lib.Ieee.{Float}
 use borrow.Author.Tests.{leb-true, ltb-false}
 use Rattle.refusal.specs.Outcome.{Outcome, ok, refused, unless, numberOf}
+use Rattle.refusal.specs.Tests.{and-true}
 use Rattle.space.specs.declared.Plane.{Plane}
 use Rattle.space.specs.declared.Precision.{Precision}
 use Rattle.space.specs.Shapes.{Face}
@@ -19,7 +20,6 @@ use Rattle.mesh.specs.declared.Meshed.{Meshed}
 use Rattle.mesh.specs.Mesh.{facet, meshOf, fairFacet, meshOn, triples, meshed}
 use Rattle.mesh.specs.Theorems.{facet-mesh}
 use Rattle.lent.specs.Lent.{numberBy, whereFine}
-use Rattle.lent.specs.Laws.{and-left, and-right}
 use Rattle.mesh_leaf.specs.Drawing.{trianglesIn, places, placesTold, countTold, Drawn, meshFits, meshLent}
 
 -- one triangle, and then others
@@ -77,8 +77,8 @@ drawn-made (refused f) m r d n d′ n′ e a b c = record {
 pub mesh-places : (w d n : ℕ) (f : Bool) → f ≡ meshFits w d n → f ≡ true → (378 ≤ d) × (1 ≤ n)
 unfolding meshFits
 mesh-places w d n f fits e =
-    let r = and-right (leb 12 w) (leb 378 d && leb 1 n) (sym fits ∙ e) in
-    (leb-true 378 d (and-left (leb 378 d) (leb 1 n) r), leb-true 1 n (and-right (leb 378 d) (leb 1 n) r))
+    let r = and-true (leb 12 w) (leb 378 d && leb 1 n) (sym fits ∙ e) .1 in
+    (leb-true 378 d (and-true (leb 378 d) (leb 1 n) r .0), leb-true 1 n (and-true (leb 378 d) (leb 1 n) r .1))
 
 module _ (p : Precision) (w : Plane) (s : List Float) (d n : List ℕ) (f g : Bool) (fits : f ≡ g) where
   pub mesh-short : f ≡ false → Drawn (meshLent g p w s) 64 d n d n

@@ -1,6 +1,5 @@
 -- Laws of `indexed` that an offset needs: how many points and places there are, and that they are read back from their slices.
 use mathlib.Core.Path.{_≡_, refl, sym, ap, _∙_}
-use mathlib.Core.Bool.{Bool, true, false}
 use mathlib.Core.List.{List, [], _∷_, _++_, append-assoc, append-nil, map}
 use Prim.Native.Nat.{ℕ, _+_, _*_, _≤_}
 use native.Mathlib.Omega.{arith}
@@ -10,24 +9,21 @@ use lib.Dec.{eqb}
 use lib.Ieee.{Float}
 use Rattle.refusal.specs.declared.Refusal.{Refusal}
 use Rattle.refusal.specs.Outcome.{Outcome, ok, refused, walk}
+use Rattle.refusal.specs.Laws.{same-ok, then-ok}
 use Rattle.space.specs.declared.Point3.{Point3}
 use Rattle.space.specs.declared.Precision.{Precision}
 use Rattle.space.specs.Shapes.{Cell, Solid, corners}
 use Rattle.polygon.specs.Memory.{floatsOf, pointsAt}
-use Rattle.polygon.specs.Members.{same-ok, then-ok}
 use Rattle.room.specs.Rooms.{cellCounts, cellAt, countsAt}
-use Rattle.room.specs.Laws.{corners-cons, corners-none, length-pointsAt, points-stored}
+use Rattle.room.specs.Laws.{corners-cons, corners-none, points-stored, cell-counts}
 use Rattle.indexed.specs.declared.Counted.{Counted}
 use Rattle.indexed.specs.declared.Counted.the-variants as C
-use Rattle.indexed.specs.Indexed.{Search, placeIn, Places, joined, placed, indexPoint, indexPoints, withFace, indexFace, indexed}
+use Rattle.indexed.specs.Indexed.{Search, placeIn, Places, placed, indexPoint, indexPoints, withFace, indexFace, indexed}
 use Rattle.indexed.specs.Stored.{flat, Stored}
+use Rattle.indexed.specs.Laws.{joined-most}
 use Rattle.solids.specs.Frames.{facesAt, Placing}
 
 -- ---- how many there are
-
-joined-few : (l : List Point3) (q : Point3) (b : Bool) → length (joined l q b) ≤ length l + 1
-joined-few l q true = omega (arith, length-append l (q ∷ []))
-joined-few l q false = omega arith
 
 points-few : (find : Search) (l : List Point3) (a b : Places) → walk (indexPoint find) a l ≡ ok b → (length (b .places) ≡ length (a .places) + length l) × (length (b .points) ≤ length (a .points) + length l)
 unfolding walk indexPoint
@@ -38,7 +34,7 @@ points-few find (q ∷ l) a b e =
     let s = same-ok (g .2) in
     let r = points-few find l (f .0) b (f .2) in
     let u : length (f .0 .places) ≡ length (a .places) + 1 = ap (λ x. length (x .places)) (sym s) ∙ length-append (a .places) (g .0 ∷ []) in
-    let v : length (f .0 .points) ≤ length (a .points) + 1 = omega (arith, ap (λ x. length (x .points)) s, joined-few (a .points) q (eqb (g .0) (length (a .points)))) in
+    let v : length (f .0 .points) ≤ length (a .points) + 1 = omega (arith, ap (λ x. length (x .points)) s, joined-most (a .points) q (eqb (g .0) (length (a .points)))) in
     (omega (arith, r .0, u), omega (arith, r .1, v))
 
 abbrev lengths : List (List ℕ) → List ℕ
@@ -100,11 +96,6 @@ pub corners-same : (a b : Cell) → cellCounts a ≡ cellCounts b → corners 0 
 corners-same a b e = sym (cell-total a) ∙ ap total e ∙ cell-total b
 
 -- ---- the cell in its room
-
-pub cell-counts : (s : List Float) (at : ℕ) (ns : List ℕ) → cellCounts (cellAt s at ns) ≡ ns
-unfolding cellAt cellCounts
-cell-counts s at [] = refl
-cell-counts s at (n ∷ ns) = ap (λ x. x ∷ cellCounts (cellAt s (at + 12 + 3 * n) ns)) (length-pointsAt s (at + 12) n) ∙ ap (λ l. n ∷ l) (cell-counts s (at + 12 + 3 * n) ns)
 
 placing-total : (ns : List ℕ) (k m : ℕ) → k + total ns ≤ m → Placing ns k m
 unfolding Placing

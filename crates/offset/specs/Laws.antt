@@ -12,7 +12,7 @@ use Rattle.refusal.specs.declared.Refusal.{Refusal}
 use Rattle.refusal.specs.declared.Verdict.{Verdict}
 use Rattle.refusal.specs.declared.Verdict.the-variants as D
 use Rattle.refusal.specs.Outcome.{Outcome, ok, refused, then, each}
-use Rattle.refusal.specs.Laws.{stop, go, each-stop, each-go, each-end}
+use Rattle.refusal.specs.Laws.{stop, go, each-stop, each-go, each-end, same-ok, then-ok}
 use Rattle.lists.specs.Laws.{next, done}
 use Rattle.lists.specs.Walks.{all}
 use Rattle.space.specs.declared.Point3.{Point3}
@@ -20,7 +20,6 @@ use Rattle.space.specs.declared.Plane.{Plane}
 use Rattle.space.specs.declared.Precision.{Precision}
 use Rattle.space.specs.Shapes.{Face, Cell, corners}
 use Rattle.polygon.specs.Memory.{floats, floatsOf, pointAt, pointsAt}
-use Rattle.polygon.specs.Members.{same-ok, then-ok}
 use Rattle.room.specs.Rooms.{planeFloats, faceFloats, cellFloats, cellCounts, faceAt, cellAt, countsAt, Within, Small}
 use Rattle.room.specs.Laws.{sets-append, sets-point, points-more, floats-more, counts-more, next-point, points-done, next-count, counts-done, within-small, within-rest, within-le, corners-snoc, corners-none, all-none, all-snoc}
 use Rattle.cell.specs.Laws.{Ahead, ahead-next, ahead-inside, ahead-done}

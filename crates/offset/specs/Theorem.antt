@@ -1,6 +1,6 @@
 -- What holds whenever an offset answers: no moved corner is certified Positive against a moved plane, and each residual lies inside the tube.
 use mathlib.Core.Path.{_≡_, refl, sym, ap, _∙_, subst}
-use mathlib.Core.Bool.{Bool, true, false, not, _||_}
+use mathlib.Core.Bool.{true, false, not}
 use mathlib.Core.List.{List, [], _∷_, _++_, append-assoc, append-nil, map}
 use Prim.Native.Nat.{ℕ, suc}
 use native.Mathlib.Omega.{arith}
@@ -13,16 +13,17 @@ use Rattle.lists.specs.Walks.{all}
 use Rattle.refusal.specs.declared.Verdict.{Verdict}
 use Rattle.refusal.specs.declared.Verdict.the-variants as D
 use Rattle.refusal.specs.Outcome.{ok, then, each, heard}
+use Rattle.refusal.specs.Laws.{same-ok, never-ok, then-ok, unless-ok}
+use Rattle.refusal.specs.Tests.{or-false}
 use Rattle.space.specs.declared.Point3.{Point3}
 use Rattle.space.specs.declared.Precision.{Precision}
 use Rattle.space.specs.Vector.{subV, addV, crossV}
-use Rattle.space.specs.Shapes.{Face, Cell, Solid}
+use Rattle.space.specs.Shapes.{Cell, Solid}
 use Rattle.side.specs.declared.Side.the-variants as S
 use Rattle.side.specs.Sides.{sideOf}
-use Rattle.polygon.specs.Members.{All, same-ok, never-ok, then-ok}
+use Rattle.polygon.specs.Members.{All}
 use Rattle.room.specs.Rooms.{cellCounts}
-use Rattle.room.specs.Laws.{length-cellCounts}
-use Rattle.room.specs.Steps.{unless-ok}
+use Rattle.room.specs.Laws.{length-cellCounts, cellCounts-snoc}
 use Rattle.indexed.specs.Indexed.{indexed}
 use Rattle.solids.specs.Frames.{pointOf}
 use Rattle.bounds.specs.Bounds.{against}
@@ -38,10 +39,6 @@ use Rattle.offset.specs.Indexes.{indexed-counts}
 pub record Inside (t : Precision) (p q : Point3) (l : List Push) : Type 0 where
   pub three : length l ≡ 3
   pub each-in : All (λ n. outside t (residual (subV q p) n) ≡ false) l
-
-or-false : (a b : Bool) → (a || b) ≡ false → (a ≡ false) × (b ≡ false)
-or-false true b e = absurd (let z : _≡_ {A = ℕ} 0 1 = cc in omega arith)
-or-false false b e = (refl, e)
 
 to-inside : (t : Precision) (a b c : Push) (p n q : Point3) → movedBy t a b c p n ≡ ok q → Inside t p q (a ∷ b ∷ c ∷ [])
 unfolding movedBy movedTo All
@@ -126,11 +123,6 @@ sizes : List Moving → List ℕ
 sizes [] = []
 sizes (m ∷ ms) = length (m .places) ∷ sizes ms
 
-counts-snoc : (c : Cell) (f : Face) → cellCounts (c ++ (f ∷ [])) ≡ cellCounts c ++ (length (f .points) ∷ [])
-unfolding cellCounts
-counts-snoc [] f = refl
-counts-snoc (g ∷ c) f = ap (λ l. length (g .points) ∷ l) (counts-snoc c f)
-
 moved-sizes : (t : Precision) (qs : List Point3) (ms : List Moving) (before e : Cell) → each (moveFace t qs) before ms ≡ ok e → cellCounts e ≡ cellCounts before ++ sizes ms
 unfolding each moveFace sizes
 moved-sizes t qs [] before e h = ap cellCounts (sym (same-ok h)) ∙ sym (append-nil (cellCounts before))
@@ -139,7 +131,7 @@ moved-sizes t qs (m ∷ ms) before e h =
     let g = then-ok (movedPlane t (m .face .plane) (m .by)) (λ w. ok (record { plane = w; points = map (pointOf qs) (m .places) })) (f .0) (f .1) in
     let l : length (f .0 .points) ≡ length (m .places) = ap (λ x. length (x .points)) (sym (same-ok (g .2))) ∙ length-map (m .places) (pointOf qs) in
     moved-sizes t qs ms (before ++ (f .0 ∷ [])) e (f .2)
-    ∙ ap (λ x. x ++ sizes ms) (counts-snoc before (f .0))
+    ∙ ap (λ x. x ++ sizes ms) (cellCounts-snoc before (f .0))
     ∙ append-assoc (cellCounts before) (length (f .0 .points) ∷ []) (sizes ms)
     ∙ ap (λ x. cellCounts before ++ (x ∷ sizes ms)) l
 

@@ -19,7 +19,7 @@ use Rattle.space.specs.declared.Precision.{Precision}
 use Rattle.space.specs.Shapes.{Cell, corners}
 use Rattle.polygon.specs.Memory.{floatsOf, pointsAt}
 use Rattle.room.specs.Rooms.{cellFloats, cellCounts, cellAt, countsAt, Within}
-use Rattle.room.specs.Laws.{points-stored, cell-stored, within-stored, length-cellFloats, length-cellCounts}
+use Rattle.room.specs.Laws.{points-stored, cell-stored, within-stored, length-cellFloats, length-cellCounts, cell-counts}
 use Rattle.indexed.specs.declared.Counted.{Counted}
 use Rattle.indexed.specs.declared.Counted.the-variants as C
 use Rattle.indexed.specs.Indexed.{indexed}
@@ -28,7 +28,7 @@ use Rattle.solids.specs.Frames.{facesAt}
 use Rattle.bounds.specs.Bounds.{against, Lies}
 use Rattle.offset.specs.Offsets.{Moving, moving, movePoints, moveFace, notCrossed, moveAll, offsetDistances, offsetCell}
 use Rattle.offset.specs.Stored.{Source, movingAt, PointsMoved, CellMoved, Ready}
-use Rattle.offset.specs.Indexes.{run-back, cell-counts, placing-fits, stored-made, stored-not, indexed-few, indexed-points, indexed-faces}
+use Rattle.offset.specs.Indexes.{run-back, placing-fits, stored-made, stored-not, indexed-few, indexed-points, indexed-faces}
 
 -- ---- what the answers of the stages say
 

@@ -1,10 +1,10 @@
 -- Laws of the call of an offset: its stages one after another, and the size of its answer.
 use mathlib.Core.Path.{_≡_, refl, sym, ap, _∙_, subst}
 use mathlib.Core.Bool.{false}
-use mathlib.Core.List.{List, [], _∷_, _++_, map}
+use mathlib.Core.List.{List}
 use Prim.Native.Nat.{ℕ, _+_, _*_, _≤_, _<_}
 use native.Mathlib.Omega.{arith}
-use lib.ListN.{length, length-append}
+use lib.ListN.{length}
 use lib.Seq.{sets, length-sets}
 use lib.Ieee.{Float}
 use borrow.Author.Tests.{lt-ltb, le-ltb}
@@ -12,60 +12,33 @@ use Rattle.refusal.specs.declared.Refusal.{Refusal}
 use Rattle.refusal.specs.declared.Verdict.{Verdict}
 use Rattle.refusal.specs.declared.Verdict.the-variants as D
 use Rattle.refusal.specs.Outcome.{Outcome, ok, refused, refusalOf, then, unless}
-use Rattle.refusal.specs.Laws.{stop, go}
+use Rattle.refusal.specs.Laws.{stop, go, same-ok, then-ok}
 use Rattle.space.specs.declared.Precision.{Precision}
 use Rattle.space.specs.Shapes.{Cell, Solid, corners}
 use Rattle.polygon.specs.Memory.{floatsOf, pointsAt}
-use Rattle.polygon.specs.Members.{then-ok, same-ok}
-use Rattle.room.specs.Rooms.{cellCounts, cellAt, countsAt}
-use Rattle.room.specs.Laws.{corners-cons, corners-none, length-pointsAt}
+use Rattle.polygon.specs.MemoryLaws.{length-pointsAt}
+use Rattle.room.specs.Rooms.{cellAt, countsAt}
+use Rattle.room.specs.Laws.{cell-counts}
 use Rattle.indexed.specs.declared.Counted.{Counted}
 use Rattle.indexed.specs.declared.Counted.the-variants as C
 use Rattle.indexed.specs.Indexed.{indexed}
 use Rattle.indexed.specs.Stored.{flat, Stored, Fits}
-use Rattle.indexed.specs.Laws.{stored-points, stored-places}
+use Rattle.indexed.specs.Laws.{stored-points, stored-places, flat-corners}
 use Rattle.solids.specs.Frames.{facesAt, Placing}
 use Rattle.offset.specs.Offsets.{offsetCell}
 use Rattle.offset.specs.Stored.{CellMoved, Ready}
 use Rattle.offset.specs.Theorem.{offset-counts}
-use Rattle.offset.specs.Indexes.{corners-same, cell-counts, placing-fits, stored-made, stored-not, indexed-few, indexed-counts, indexed-points, indexed-faces}
+use Rattle.offset.specs.Indexes.{corners-same, placing-fits, stored-made, stored-not, indexed-few, indexed-counts, indexed-points, indexed-faces}
 use Rattle.offset.specs.Whole.{cell-size, cell-not, cell-made, cell-is, cell-lies}
 use Rattle.solid_check.specs.Check.{check}
 use Rattle.built.specs.Built.{built, Bench}
-use Rattle.words.specs.Little.{digits}
-use Rattle.job.specs.Written.{pointBytes}
-use Rattle.writer.specs.Rows.{row, length-row}
-use Rattle.writer.specs.Laws.{length-point}
 use Rattle.writer.specs.Writing.{solidIn, Lent}
-use Rattle.answer.specs.Answers.{faceAnswer, solidAnswer}
-use Rattle.answer.specs.Laws.{length-count, length-faceAnswer, faces-number}
+use Rattle.answer.specs.Answers.{solidAnswer}
+use Rattle.answer.specs.Laws.{faces-number, solid-size}
 use Rattle.ended.specs.declared.Ended.{Ended}
 use Rattle.ended.specs.Ends.{fitted, answered, stopped, Handed}
 use Rattle.ended.specs.Laws.{handed-not, handed-full, handed-all}
 use Rattle.offset_answer.specs.Calls.{offsetAnswer, builtAnswer, offsetCall}
-
--- ---- how many bytes a solid has
-
-faces-size : (fs : List (List ℕ)) → length (row faceAnswer fs) ≡ 4 * length fs + 4 * length (flat fs)
-unfolding row flat
-faces-size [] = refl
-faces-size (f ∷ fs) = omega (arith, length-append (faceAnswer f) (row faceAnswer fs), length-faceAnswer f, faces-size fs, length-append f (flat fs))
-
-pub solid-size : (s : Solid) → length (solidAnswer s) ≡ 8 + 24 * length (s .points) + 4 * length (s .faces) + 4 * length (flat (s .faces))
-unfolding solidAnswer
-solid-size s =
-    let a = row pointBytes (s .points) in
-    let b = row faceAnswer (s .faces) in
-    omega (
-      arith,
-      length-append (digits 4 (length (s .points))) (a ++ (digits 4 (length (s .faces)) ++ b)),
-      length-append a (digits 4 (length (s .faces)) ++ b),
-      length-append (digits 4 (length (s .faces))) b,
-      length-count (length (s .points)),
-      length-count (length (s .faces)),
-      length-row pointBytes 24 length-point (s .points),
-      faces-size (s .faces),
-    )
 
 -- ---- the answer of a built solid
 
@@ -101,16 +74,6 @@ module _ (points : List Float) (m : ℕ) (places counts : List ℕ) (n k limit :
       handed-all (offsetAnswer limit solid) a a′ r (solidAnswer solid) (within h) (omega (arith, f, size-is)) (w ∙ ap answered l) y
 
 -- ---- the cell is built
-
-pub flat-corners : (fs : List (List ℕ)) (c : Cell) → map length fs ≡ cellCounts c → length (flat fs) ≡ corners 0 c
-unfolding flat cellCounts
-flat-corners [] [] e = sym corners-none
-flat-corners [] (f ∷ c) e = absurd (omega (arith, ap length e))
-flat-corners (f ∷ fs) [] e = absurd (omega (arith, ap length e))
-flat-corners (f ∷ fs) (g ∷ c) e =
-    let a : length f ≡ length (g .points) = cc in
-    let b : map length fs ≡ cellCounts c = cc in
-    omega (arith, length-append f (flat fs), flat-corners fs c b, a, corners-cons g c)
 
 -- a built solid is the indexed one
 pub built-indexed : (t : Precision) (c : Cell) (s : Solid) → built t c ≡ ok s → (indexed t c ≡ ok s) × ((b : Cell) × (check false t s ≡ ok b))

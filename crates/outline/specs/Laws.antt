@@ -1,7 +1,7 @@
 -- Laws of outlines, in the words of a loop.
 use mathlib.Core.Path.{_≡_, refl, sym, ap, _∙_}
 use mathlib.Core.List.{List, [], _∷_, _++_}
-use Prim.Native.Nat.{ℕ, zero, suc, _+_, _-_, _*_, _≤_, _<_}
+use Prim.Native.Nat.{ℕ, _+_, _-_, _*_, _≤_, _<_}
 use native.Mathlib.Omega.{arith}
 use lib.ListN.{length, set}
 use lib.Seq.{take-at}
@@ -22,25 +22,8 @@ use Rattle.outline.specs.declared.Shadow.{Shadow}
 use Rattle.outline.specs.declared.Shadow.the-variants as S
 use Rattle.outline.specs.declared.Outlined.{Outlined}
 use Rattle.polygon.specs.Memory.{pointAt, pointsAt}
+use Rattle.polygon.specs.MemoryLaws.{points-next, points-done}
 use Rattle.outline.specs.Project.{shadowed, shadowOf, shadowBy, projectedOf, pointsOf, middle, padded, outline, outlined}
-
--- ---- the next of the points of a slice, and the rest
-
-pub next-point : (s : List Float) (n i : ℕ) → i < n → pointsAt s (3 * i) (n - i) ≡ pointAt s (3 * i) ∷ pointsAt s (3 * (i + 1)) (n - (i + 1))
-unfolding pointsAt
-next-point s n i h =
-    let e : n - i ≡ suc (n - (i + 1)) = omega arith in
-    let k : 3 * i + 3 ≡ 3 * (i + 1) = omega arith in
-    ap (pointsAt s (3 * i)) e ∙ ap (λ j. pointAt s (3 * i) ∷ pointsAt s j (n - (i + 1))) k
-
-pub points-done : (s : List Float) (n i : ℕ) → n ≤ i → pointsAt s (3 * i) (n - i) ≡ []
-unfolding pointsAt
-points-done s n i h = let e : n - i ≡ 0 = omega arith in ap (pointsAt s (3 * i)) e
-
-pub length-points : (s : List Float) (i n : ℕ) → length (pointsAt s i n) ≡ n
-unfolding pointsAt
-length-points s i zero = refl
-length-points s i (suc n) = ap suc (length-points s (i + 3) n)
 
 -- ---- an outline holds its points
 
@@ -68,17 +51,17 @@ module _ (w : Plane) (s : List Float) (n i : ℕ) (made : List Projected) where
       → left ≡ each (projectedOf w) (made ++ (u ∷ [])) (pointsAt s (3 * (i + 1)) (n - (i + 1)))
   unfolding shadowed
   project-go q m u h e f g =
-      ap (each (projectedOf w) made) (next-point s n i h)
+      ap (each (projectedOf w) made) (points-next s n i h)
       ∙ each-go (projectedOf w) made (pointAt s (3 * i)) (pointsAt s (3 * (i + 1)) (n - (i + 1))) u (ap (projectedOf w) (sym e) ∙ sym f ∙ ap shadowed g)
 
   pub project-stop : (q : Point3) (m : Shadow) (r : Refusal) → i < n → q ≡ pointAt s (3 * i) → shadowed m ≡ projectedOf w q → m ≡ S.Refused r → left ≡ refused r
   unfolding shadowed
   project-stop q m r h e f g =
-      ap (each (projectedOf w) made) (next-point s n i h)
+      ap (each (projectedOf w) made) (points-next s n i h)
       ∙ each-stop (projectedOf w) made (pointAt s (3 * i)) (pointsAt s (3 * (i + 1)) (n - (i + 1))) r (ap (projectedOf w) (sym e) ∙ sym f ∙ ap shadowed g)
 
   pub project-end : n ≤ i → left ≡ ok made
-  project-end h = ap (each (projectedOf w) made) (points-done s n i h) ∙ each-end (projectedOf w) made
+  project-end h = ap (each (projectedOf w) made) (points-done s n i (3 * i) h) ∙ each-end (projectedOf w) made
 
 pub project-start : (w : Plane) (s : List Float) (n : ℕ) → left w s n 0 [] ≡ each (projectedOf w) [] (pointsAt s 0 n)
 project-start w s n = let e : n - 0 ≡ n = omega arith in ap (λ k. each (projectedOf w) [] (pointsAt s 0 k)) e

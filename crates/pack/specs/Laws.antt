@@ -14,7 +14,7 @@ use Rattle.words.specs.Laws.{length-float}
 use Rattle.job.specs.declared.Operation.{Operation}
 use Rattle.job.specs.declared.Span.{Span}
 use Rattle.job.specs.Records.{standing, runOf, facesOf, bodies, faceBodies}
-use Rattle.job.specs.Bytes.{solidOf, operationByte}
+use Rattle.job.specs.Bytes.{pointOf, solidOf, operationByte}
 use Rattle.job.specs.Written.{precisionBytes, pointBytes}
 use Rattle.job.specs.Read.{pointAt, bodiesAt, solidAt}
 use Rattle.job.specs.Runs.{faces-more, faces-none}
@@ -28,6 +28,12 @@ sets-more l i [] ys = let k : i ≡ i + 0 = omega arith in ap (λ x. sets l x ys
 sets-more l i (a ∷ xs) ys =
     let k : suc i + length xs ≡ i + suc (length xs) = omega arith in
     sets-more (set l i a) (suc i) xs ys ∙ ap (λ x. sets (sets (set l i a) (suc i) xs) x ys) k
+
+-- ---- how many points there are
+
+pub length-from : (l : List ℕ) (at n : ℕ) → length (pointsFrom l at n) ≡ n
+unfolding pointsFrom
+length-from l at n = length-map (bodies 24 n (drop at l)) pointOf ∙ length-bodies 24 n (drop at l)
 
 -- ---- the corners of a face, one more in a turn
 

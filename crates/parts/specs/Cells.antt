@@ -6,9 +6,9 @@ use native.Mathlib.Omega.{arith}
 use lib.ListN.{length, getD, take}
 use lib.Seq.{length-take-le}
 use Rattle.refusal.specs.declared.Refusal.{Refusal}
-use Rattle.refusal.specs.declared.Verdict.{Verdict}
 use Rattle.refusal.specs.declared.Verdict.the-variants.{Fine, Refused}
 use Rattle.refusal.specs.Outcome.{heard}
+use Rattle.refusal.specs.Laws.{never-fine}
 use Rattle.sums.specs.Sum.{Each}
 use Rattle.sums.specs.Keys.{pairs}
 use Rattle.sums.specs.KeyLaws.{each-map, each-imp, pairs-each, Sharing}
@@ -48,9 +48,6 @@ pub record Parting (fs : List Facet) (n : ℕ) (c₀ u₀ x c u : List ℕ) (r :
   pub few : r .verdict ≡ Fine → r .listed ≤ length x
   pub groups : r .verdict ≡ Fine → Grouped (materials fs n) c₀ u₀ c u (r .groups)
 
-never : {A : Type 0} (v : Verdict) (r : Refusal) → v ≡ Refused r → v ≡ Fine → A
-never v r e q = let z : _≡_ {A = ℕ} 0 1 = cc in absurd (omega arith)
-
 module _ (v starts owners : List ℕ) (f n : ℕ) where
   pub valid-cells : Celled owners f n → Valid (facetsOf v starts owners f) n
   valid-cells w i h = let z : i < f = omega (arith, many-facets v starts owners f) in subst (λ c. c < n) (sym (cell-at v starts owners f i z)) (w i z)
@@ -72,7 +69,7 @@ module _ (v starts owners : List ℕ) (f n : ℕ) where
 
   module _ (x e : List ℕ) (m : Met) (w : Met-all (facetsOf v starts owners f) x e m) where
     pub part-refused : (r : Refusal) (c₀ u₀ c u : List ℕ) → m .verdict ≡ Refused r → Parting (facetsOf v starts owners f) n c₀ u₀ x c u (record { verdict = m .verdict; listed = 0; groups = 0 })
-    part-refused r c₀ u₀ c u q = record { told = w .told; listed = λ t. never (m .verdict) r q t; few = λ t. never (m .verdict) r q t; groups = λ t. never (m .verdict) r q t }
+    part-refused r c₀ u₀ c u q = record { told = w .told; listed = λ t. never-fine (sym q ∙ t); few = λ t. never-fine (sym q ∙ t); groups = λ t. never-fine (sym q ∙ t) }
 
     module _ (t : m .verdict ≡ Fine) (s : List ℕ) (h : n ≤ length s) where
       pub part-within : Celled owners f n → Within (take (2 * m .pairs) e) (length (take n s))

@@ -7,11 +7,10 @@ use lib.ListN.{length, drop, length-append}
 use lib.Seq.{sets, sets-eq}
 use lib.Ieee.{Float}
 use Rattle.refusal.specs.Outcome.{Outcome, then}
-use Rattle.space.specs.declared.Plane.{Plane}
 use Rattle.space.specs.declared.Precision.{Precision}
 use Rattle.space.specs.Shapes.{Face, Cell}
-use Rattle.room.specs.Rooms.{planeFloats, planeAt, cellFloats, cellCounts, cellAt}
-use Rattle.room.specs.Laws.{sets-append, cell-back}
+use Rattle.room.specs.Rooms.{planeFloats, planeAt}
+use Rattle.room.specs.Laws.{sets-append, plane-back}
 use Rattle.stack.specs.declared.Stack.{Stack}
 use Rattle.stack.specs.Stacks.{listAt, Listed, Places}
 use Rattle.stack.specs.Laws.{listed-is}
@@ -36,14 +35,6 @@ planes-put a b faces p₀ p p′ h e g =
     let z : 12 * 0 ≡ 0 = omega arith in
     g ∙ ap (λ x. sets x (12 * faces) (planesFloats b)) (e ∙ ap (λ i. sets p₀ i (planesFloats a)) z) ∙ ap (λ i. sets (sets p₀ 0 (planesFloats a)) i (planesFloats b)) k
     ∙ sets-append p₀ 0 (planesFloats a) (planesFloats b)
-
-planeOr : Plane → Cell → Plane
-planeOr w [] = w
-planeOr w (f ∷ c) = f .plane
-
-plane-back : (x : List Float) (w : Plane) (y : List Float) (i : ℕ) → i ≡ length x → planeAt (x ++ (planeFloats w ++ y)) i ≡ w
-unfolding cellAt cellFloats cellCounts planeOr
-plane-back x w y i e = ap (planeOr w) (cell-back x (record { plane = w; points = [] } ∷ []) y i e)
 
 planes-back : (x : List Float) (c : Cell) (y : List Float) (i : ℕ) → i ≡ length x → planesAt (x ++ (planesFloats c ++ y)) i (length c) ≡ planesOf c
 unfolding planesAt planesFloats planesOf

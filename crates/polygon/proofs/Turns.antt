@@ -23,6 +23,7 @@ use Rattle.polygon.specs.Polygons.{padded, polygon, made}
 use Rattle.polygon.specs.Memory.{pointAt, pointsAt}
 use Rattle.polygon.specs.Unique.{both, scan, keepOne, unique}
 use Rattle.polygon.specs.Laws.{corners-polygon, length-padded, keep-near, keep-apart, keep-refused, scan-next, scan-done}
+use Rattle.polygon.specs.MemoryLaws.{length-pointsAt}
 
 -- q was compared with j of the m kept corners in the array a
 pub record Scanned (t : Precision) (q : Point3) (a : List Point3) (m : ℕ) (s : Closeness) (j : ℕ) : Type 0 where
@@ -107,16 +108,11 @@ kept-start t l n h k = record { kept = []; array = refl; count = refl; few = ome
 
 -- ---- the points of a slice
 
-length-points : (s : List Float) (at n : ℕ) → length (pointsAt s at n) ≡ n
-unfolding pointsAt
-length-points s at zero = refl
-length-points s at (suc n) = ap suc (length-points s (at + 3) n)
-
 pub all-points : (s : List Float) (at n : ℕ) → take n (pointsAt s at n) ≡ pointsAt s at n
-all-points s at n = take-all n (pointsAt s at n) (omega (arith, length-points s at n))
+all-points s at n = take-all n (pointsAt s at n) (omega (arith, length-pointsAt s at n))
 
 pub points-start : (t : Precision) (s : List Float) (at n : ℕ) → n ≤ 128 → Kept t (pointsAt s at n) n (padded []) 0 0
-points-start t s at n h = kept-start t (pointsAt s at n) n h (omega (arith, length-points s at n))
+points-start t s at n h = kept-start t (pointsAt s at n) n h (omega (arith, length-pointsAt s at n))
 
 pub point-here : (s : List Float) (at n i : ℕ) → i < n → pointAt s (at + 3 * i) ≡ getD (pointsAt s at n) i nowhere
 unfolding pointsAt

@@ -3,8 +3,8 @@ use mathlib.Core.Path.{_≡_, refl, sym, subst, _∙_}
 use mathlib.Core.List.{List, [], _∷_, _++_}
 use mathlib.Core.Logic.{_⊎_, inl, inr, ⊎-elim}
 use Rattle.refusal.specs.declared.Refusal.{Refusal}
-use Rattle.refusal.specs.Outcome.{Outcome, ok, refused, then, walk}
-use Rattle.refusal.specs.Laws.{walk-end}
+use Rattle.refusal.specs.Outcome.{ok, walk}
+use Rattle.refusal.specs.Laws.{walk-end, same-ok, never-ok}
 use Rattle.space.specs.declared.Point3.{Point3}
 use Rattle.space.specs.declared.Precision.{Precision}
 use Rattle.space.specs.declared.Closeness.{Closeness}
@@ -16,23 +16,6 @@ use Rattle.polygon.specs.Laws.{keep-near, keep-apart, keep-refused}
 unfoldable pub All : {A : Type 0} → (A → Type 0) → List A → Type 0
 All P [] = Unit
 All P (x ∷ l) = P x × All P l
-
--- ---- outcomes that are an answer
-
-pub same-ok : {A : Type 0} {a b : A} → ok a ≡ ok b → a ≡ b
-same-ok e = cc
-
-pub never-ok {ℓ} : {A : Type 0} {B : Type ℓ} {r : Refusal} {a : A} → refused r ≡ ok a → B
-never-ok {A = A} e = absurd (subst kind e tt)
-  where
-    kind : Outcome A → Type 0
-    kind (ok a) = ⊥
-    kind (refused r) = Unit
-
--- the step before gave an answer too
-pub then-ok : {A B : Type 0} (o : Outcome A) (f : A → Outcome B) (b : B) → then o f ≡ ok b → (a : A) × (o ≡ ok a) × (f a ≡ ok b)
-then-ok (ok a) f b e = (a, refl, e)
-then-ok (refused r) f b e = never-ok e
 
 -- ---- lists
 

@@ -54,10 +54,10 @@ points-same s s′ at (suc n) h =
     ∙ ap (λ l. pointAt s at ∷ l) (points-same s s′ (at + 3) n (λ j a b. h j (omega arith) (omega arith)))
 
 module _ (s : List Float) where
-  pub length-points : (at n : ℕ) → length (pointsAt s at n) ≡ n
+  pub length-pointsAt : (at n : ℕ) → length (pointsAt s at n) ≡ n
   unfolding pointsAt
-  length-points at zero = refl
-  length-points at (suc n) = ap suc (length-points (at + 3) n)
+  length-pointsAt at zero = refl
+  length-pointsAt at (suc n) = ap suc (length-pointsAt (at + 3) n)
 
   -- one point more at the end
   pub points-more : (at n : ℕ) → pointsAt s at (n + 1) ≡ pointsAt s at n ++ (pointAt s (at + 3 * n) ∷ [])

@@ -18,11 +18,12 @@ use Rattle.space.specs.declared.Precision.{Precision}
 use Rattle.side.specs.declared.Side.{Side}
 use Rattle.side.specs.Sides.{sideOf}
 use Rattle.polygon.specs.Memory.{floats, pointAt, pointsAt}
+use Rattle.polygon.specs.MemoryLaws.{length-pointsAt}
 use Rattle.edge.specs.declared.Seen.{Seen}
 use Rattle.edge.specs.declared.Meet.{Meet}
 use Rattle.edge.specs.declared.Meet.the-variants as M
 use Rattle.edge.specs.Meets.{noted, seen, cornerMeet, edgeMeet}
-use Rattle.room.specs.Laws.{length-pointsAt, points-put, next-point, points-done, next-corner, round-done}
+use Rattle.room.specs.Laws.{points-put, next-point, points-done, next-corner, round-done}
 use Rattle.room.specs.Steps.{then-then, onward, onward-next, onward-end}
 use Rattle.ring.specs.declared.Ringed.{Ringed}
 use Rattle.ring.specs.Rings.{signOne, firstOf, Ring, pushFace, pushCap, pushBoth, pushed, cutBy, cutEdge, cutRing, ringOf, Roomy, Step, FaceStep, CapStep, Rung}

@@ -7,7 +7,7 @@ use native.Mathlib.Omega.{arith}
 use native.Mathlib.Nat.{not-suc-le-zero, le-of-suc-le-suc, add-zero, mod-lt}
 use native.Mathlib.Numerals.{add-one, add-three}
 use lib.ListN.{length, take, drop, getD, set, replicate, length-append, length-drop, length-take, drop-of-length-le}
-use lib.Seq.{sets, sets-eq, drop-cons, getD-append-add, getD-drop, getD-set-other}
+use lib.Seq.{sets, sets-eq, drop-cons, getD-append-add, getD-drop, getD-set-other, length-take-le}
 use lib.Ieee.{Float, nan}
 use Rattle.space.specs.declared.Point3.{Point3}
 use Rattle.space.specs.declared.Frame.{Frame}
@@ -20,6 +20,8 @@ use Rattle.polygon.specs.declared.Polygon.{Polygon}
 use Rattle.polygon.specs.Polygons.{polygon}
 use Rattle.polygon.specs.Memory.{floats, floatsOf, pointAt, pointsAt}
 use Rattle.polygon.specs.Members.{All}
+use Rattle.polygon.specs.MemoryLaws as M
+use Rattle.polygon.specs.MemoryLaws.{length-pointsAt, point-stored}
 use Rattle.room.specs.Rooms.{planeFloats, planeAt, faceFloats, cellFloats, cellCounts, faceAt, cellAt, countsAt, Within, In, Small}
 
 -- ---- runs of stores
@@ -60,11 +62,6 @@ fill-all n v d h k =
 
 -- ---- lengths
 
-pub length-pointsAt : (s : List Float) (i n : ℕ) → length (pointsAt s i n) ≡ n
-unfolding pointsAt
-length-pointsAt s i zero = refl
-length-pointsAt s i (suc n) = ap suc (length-pointsAt s (i + 3) n)
-
 pub length-floatsOf : (l : List Point3) → length (floatsOf l) ≡ 3 * length l
 length-floatsOf [] = refl
 length-floatsOf (p ∷ l) = omega (arith, length-floatsOf l)
@@ -96,6 +93,21 @@ unfolding cellCounts
 length-cellCounts [] = refl
 length-cellCounts (f ∷ c) = ap suc (length-cellCounts c)
 
+-- the counts of a cell in a slice, and how many faces it has
+pub cell-counts : (s : List Float) (at : ℕ) (ns : List ℕ) → cellCounts (cellAt s at ns) ≡ ns
+unfolding cellAt cellCounts
+cell-counts s at [] = refl
+cell-counts s at (n ∷ ns) = ap (λ x. x ∷ cellCounts (cellAt s (at + 12 + 3 * n) ns)) (length-pointsAt s (at + 12) n) ∙ ap (λ l. n ∷ l) (cell-counts s (at + 12 + 3 * n) ns)
+
+pub length-cellAt : (s : List Float) (at : ℕ) (ns : List ℕ) → length (cellAt s at ns) ≡ length ns
+unfolding cellAt
+length-cellAt s at [] = refl
+length-cellAt s at (n ∷ ns) = ap suc (length-cellAt s (at + 12 + 3 * n) ns)
+
+pub cell-faces : (s : List Float) (at : ℕ) (ns : List ℕ) (j faces : ℕ) → j + faces ≤ length ns → length (cellAt s at (countsAt ns j faces)) ≡ faces
+cell-faces s at ns j faces h =
+    length-cellAt s at (countsAt ns j faces) ∙ length-take-le faces (drop j ns) (omega (arith, length-drop j ns))
+
 -- ---- one more behind the others
 
 floatsOf-snoc : (l : List Point3) (q : Point3) → floatsOf (l ++ (q ∷ [])) ≡ floatsOf l ++ floats q
@@ -107,7 +119,7 @@ unfolding cellFloats
 cellFloats-snoc [] f = append-nil (faceFloats f)
 cellFloats-snoc (g ∷ c) f = ap (λ l. faceFloats g ++ l) (cellFloats-snoc c f) ∙ sym (append-assoc (faceFloats g) (cellFloats c) (faceFloats f))
 
-cellCounts-snoc : (c : Cell) (f : Face) → cellCounts (c ++ (f ∷ [])) ≡ cellCounts c ++ (length (f .points) ∷ [])
+pub cellCounts-snoc : (c : Cell) (f : Face) → cellCounts (c ++ (f ∷ [])) ≡ cellCounts c ++ (length (f .points) ∷ [])
 unfolding cellCounts
 cellCounts-snoc [] f = refl
 cellCounts-snoc (g ∷ c) f = ap (λ l. length (g .points) ∷ l) (cellCounts-snoc c f)
@@ -207,6 +219,12 @@ unfolding All
 all-both p q r [] f a b = tt
 all-both p q r (x ∷ l) f a b = (f x (a .0) (b .0), all-both p q r l f (a .1) (b .1))
 
+pub all-get : {A : Type 0} (p : A → Type 0) (l : List A) (x : ℕ) (d : A) → All p l → x < length l → p (getD l x d)
+unfolding All
+all-get p [] x d a h = absurd (not-suc-le-zero h)
+all-get p (y ∷ l) zero d a h = a .0
+all-get p (y ∷ l) (suc x) d a h = all-get p l x d (a .1) (le-of-suc-le-suc h)
+
 pub all-in : {A : Type 0} (p : A → Type 0) (l : List A) → ((x : A) → In x l → p x) → All p l
 unfolding All In
 all-in p [] f = tt
@@ -245,7 +263,7 @@ points-back a (p ∷ l) b i e =
     let s : (a ++ floats p) ++ (floatsOf l ++ b) ≡ a ++ (floats p ++ (floatsOf l ++ b)) = append-assoc a (floats p) (floatsOf l ++ b) in
     ap (λ q. q ∷ pointsAt (a ++ (floats p ++ (floatsOf l ++ b))) (i + 3) (length l)) h ∙ ap (λ q. p ∷ q) (ap (λ m. pointsAt m (i + 3) (length l)) (sym s) ∙ t)
 
-plane-back : (a : List Float) (w : Plane) (r : List Float) (i : ℕ) → i ≡ length a → planeAt (a ++ (planeFloats w ++ r)) i ≡ w
+pub plane-back : (a : List Float) (w : Plane) (r : List Float) (i : ℕ) → i ≡ length a → planeAt (a ++ (planeFloats w ++ r)) i ≡ w
 plane-back a w r i e =
     let f = w .frame in
     let at : (b : List Float) (p : Point3) (q : List Float) (k : ℕ) → k ≡ length b → b ++ (floats p ++ q) ≡ a ++ (planeFloats w ++ r) → pointAt (a ++ (planeFloats w ++ r)) k ≡ p =
@@ -305,25 +323,12 @@ points-before s i (suc n) j vs h =
     let p : pointAt (sets s j vs) i ≡ pointAt s i = λ k. record { x = x k; y = y k; z = z k } in
     cc (p, points-before s (i + 3) n j vs (omega arith))
 
-points-snoc : (s : List Float) (i n : ℕ) → pointsAt s i (suc n) ≡ pointsAt s i n ++ (pointAt s (i + 3 * n) ∷ [])
-unfolding pointsAt
-points-snoc s i zero = ap (λ k. pointAt s k ∷ []) (omega arith)
-points-snoc s i (suc n) =
-    ap (λ l. pointAt s i ∷ l) (points-snoc s (i + 3) n) ∙ ap (λ k. pointAt s i ∷ (pointsAt s (i + 3) n ++ (pointAt s k ∷ []))) (omega arith)
-
-point-put : (s : List Float) (j : ℕ) (q : Point3) → j + 3 ≤ length s → pointAt (sets s j (floats q)) j ≡ q
-point-put s j q h =
-    let e : sets s j (floats q) ≡ take j s ++ (floats q ++ drop (j + 3) s) = sets-eq (floats q) s j h ∙ append-assoc (take j s) (floats q) (drop (j + 3) s) in
-    let k : j ≡ length (take j s) = sym (length-take j s ∙ omega arith) in
-    ap (λ m. pointAt m j) e ∙ point-back (take j s) q (drop (j + 3) s) j k
-
 pub points-put : (s : List Float) (n : ℕ) (q : Point3) → 3 * n + 3 ≤ length s → pointsAt (sets s (3 * n) (floats q)) 0 (n + 1) ≡ pointsAt s 0 n ++ (q ∷ [])
 points-put s n q h =
-    ap (pointsAt (sets s (3 * n) (floats q)) 0) (add-one n)
-    ∙ points-snoc (sets s (3 * n) (floats q)) 0 n
+    M.points-more (sets s (3 * n) (floats q)) 0 n
     ∙ ap (λ l. l ++ (pointAt (sets s (3 * n) (floats q)) (0 + 3 * n) ∷ [])) (points-before s 0 n (3 * n) (floats q) (omega arith))
     ∙ ap (λ k. pointsAt s 0 n ++ (pointAt (sets s (3 * n) (floats q)) k ∷ [])) (omega arith)
-    ∙ ap (λ p. pointsAt s 0 n ++ (p ∷ [])) (point-put s (3 * n) q h)
+    ∙ ap (λ p. pointsAt s 0 n ++ (p ∷ [])) (point-stored s (3 * n) q h)
 
 -- ---- a walk round the points in a slice: the next edge and the rest
 

@@ -9,7 +9,8 @@ use lib.ListN.{length, drop, getD, drop-of-length-le}
 use lib.Ieee.{Float}
 use Rattle.lists.specs.Walks.{Numbered, numbered}
 use Rattle.polygon.specs.Memory.{pointAt, pointsAt}
-use Rattle.room.specs.Laws.{point-of, length-pointsAt}
+use Rattle.polygon.specs.MemoryLaws.{length-pointsAt}
+use Rattle.room.specs.Laws.{point-of}
 
 abbrev tagged : {A : Type 0} → ℕ → A → Numbered A
 tagged p x = record { place = p; it = x }

@@ -1,10 +1,9 @@
 -- Laws of loops that keep a verdict beside their state: a refusal stays, and the turns that follow change nothing.
 use mathlib.Core.Path.{_≡_, refl, sym, ap, _∙_}
-use mathlib.Core.Bool.{Bool, true, false}
 use mathlib.Core.List.{List, [], _∷_}
-use Prim.Native.Nat.{ℕ}
-use Rattle.refusal.specs.Outcome.{Outcome, ok, refused, then, unless, walk}
-use Rattle.polygon.specs.Members.{All, same-ok, never-ok, then-ok}
+use Rattle.refusal.specs.Outcome.{Outcome, ok, refused, then, walk}
+use Rattle.refusal.specs.Laws.{same-ok, then-ok}
+use Rattle.polygon.specs.Members.{All}
 
 -- what a walk from a heard state on still gives
 abbrev pub onward : {S A : Type 0} → (S → A → Outcome S) → Outcome S → List A → Outcome S
@@ -28,10 +27,6 @@ then-then (ok a) f g = refl
 then-then (refused r) f g = refl
 
 -- ---- what an answer says of the steps that led to it
-
-pub unless-ok : {A : Type 0} (t : Bool) (n : ℕ) (o : Outcome A) (a : A) → unless t n o ≡ ok a → (t ≡ false) × (o ≡ ok a)
-unless-ok true n o a e = never-ok e
-unless-ok false n o a e = (refl, e)
 
 -- what each turn keeps, the walk keeps
 pub walk-keeps : {S A : Type 0} (I : S → Type 0) (f : S → A → Outcome S) (l : List A) → All (λ x. (s s′ : S) → f s x ≡ ok s′ → I s → I s′) l →

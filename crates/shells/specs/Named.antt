@@ -9,12 +9,12 @@ use native.Mathlib.Numerals.{add-one}
 use lib.ListN.{length, getD, set, take, drop, length-set, length-map, take-append-drop}
 use lib.Seq.{take-at, drop-at, getD-take, take-suc, take-suc-set, drop-set-lt, drop-drop, getD-drop}
 use Rattle.sums.specs.Sum.{sum, sum-one, hit, hit-cases, Each}
-use Rattle.sums.specs.KeyLaws.{sum-append, full-zero, all-each, each-getD, graph-of}
+use Rattle.sums.specs.KeyLaws.{full-zero, all-each, each-getD, graph-of}
 use Rattle.sums.specs.CountLaws.{ones}
 use Rattle.sums.specs.Components.{components}
 use Rattle.sums.specs.ComponentLaws.{Components, components-found}
 use Rattle.groups.specs.Chain.{pairsOf}
-use Rattle.groups.specs.Groups.{joined, bounds, Grouped, Within, joinsOf}
+use Rattle.groups.specs.Groups.{joined, bounds, Grouped, Within, joinsOf, sum-joined}
 
 abbrev pub nameIn : List ℕ → ℕ → ℕ
 nameIn f p = getD f p 0
@@ -90,11 +90,6 @@ pairs-within n zero l h w = tt
 pairs-within n (suc k) [] h w = tt
 pairs-within n (suc k) (a ∷ []) h w = tt
 pairs-within n (suc k) (a ∷ b ∷ l) h w = ((w 0 (omega arith), w 1 (omega arith)), pairs-within n k l (omega arith) (λ j i. w (suc (suc j)) (omega arith)))
-
-sum-joined : (f : ℕ → ℕ) (gs : List (List ℕ)) → sum f (joined gs) ≡ sum (sum f) gs
-unfolding joined sum
-sum-joined f [] = refl
-sum-joined f (g ∷ gs) = sum-append f g (joined gs) ∙ ap (λ n. sum f g + n) (sum-joined f gs)
 
 module _ (ends : List ℕ) (n : ℕ) (w : Within ends n) where
   pub found : Components n (joinsOf ends) (components n (joinsOf ends))

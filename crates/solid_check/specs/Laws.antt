@@ -1,5 +1,5 @@
 -- Laws of the check, in the words of the code.
-use mathlib.Core.Path.{_≡_, refl, sym, ap, ap₂, _∙_, subst}
+use mathlib.Core.Path.{_≡_, refl, sym, ap, ap₂, _∙_}
 use mathlib.Core.Bool.{Bool, true, false, not, _&&_}
 use mathlib.Core.List.{List, [], _∷_, _++_, append-nil, append-assoc, map}
 use Prim.Native.Nat.{ℕ, _+_, _≤_}
@@ -11,39 +11,29 @@ use Rattle.refusal.specs.declared.Refusal.{Refusal}
 use Rattle.refusal.specs.declared.Verdict.{Verdict}
 use Rattle.refusal.specs.declared.Verdict.the-variants as D
 use Rattle.refusal.specs.Outcome.{Outcome, ok, refused, refusalOf, unless, each, verdictOf}
-use Rattle.refusal.specs.Laws.{stop, go, each-go, each-end}
+use Rattle.refusal.specs.Laws.{stop, go, each-go, each-end, same-ok, never-ok, unless-ok, never-fine}
 use Rattle.space.specs.declared.Point3.{Point3}
 use Rattle.space.specs.declared.Plane.{Plane}
 use Rattle.space.specs.declared.Precision.{Precision}
 use Rattle.space.specs.Shapes.{Cell, Solid}
 use Rattle.polygon.specs.Memory.{pointsAt}
-use Rattle.polygon.specs.Members.{same-ok, never-ok}
+use Rattle.polygon.specs.MemoryLaws.{length-pointsAt}
 use Rattle.room.specs.Rooms.{countsAt, cellFloats, cellCounts}
-use Rattle.room.specs.Steps.{unless-ok}
-use Rattle.room.specs.Laws.{length-pointsAt}
-use Rattle.solids.specs.Apart.{firstOf, eachIn}
+use Rattle.solids.specs.Apart.{eachIn}
 use Rattle.solids.specs.Frames.{pointOf, planeFor, facesAt, framedAll, Placing}
 use Rattle.solids.specs.Faces.{placing-le}
 use Rattle.solids.specs.Order.{fairAll, countedAll, shaped}
+use Rattle.solids.specs.Laws.{first-fine}
 use Rattle.topology.specs.Topology.{sound}
 use Rattle.topology.specs.Sound.{faces-many}
 use Rattle.solid_check.specs.Check.{solidAt, faceOf, cellOf, after, check, stored, kept, framed}
 
 -- ---- what a fine verdict says
 
-Good : Verdict → Type 0
-Good D.Fine = Unit {0}
-Good (D.Refused r) = ⊥
-
-first-fine : (v w : Verdict) → firstOf v w ≡ D.Fine → (v ≡ D.Fine) × (w ≡ D.Fine)
-unfolding firstOf Good
-first-fine D.Fine w e = (refl, e)
-first-fine (D.Refused r) w e = absurd (subst Good (sym e) tt)
-
 verdict-ok : {A : Type 0} (o : Outcome A) → verdictOf o ≡ D.Fine → (a : A) × (o ≡ ok a)
-unfolding verdictOf Good
+unfolding verdictOf
 verdict-ok (ok a) e = (a, refl)
-verdict-ok (refused r) e = absurd (subst Good (sym e) tt)
+verdict-ok (refused r) e = never-fine e
 
 face-ok : (t : Precision) (ps : List Point3) (f : List ℕ) (w : Plane) → planeFor t ps f ≡ ok w → faceOf t ps f ≡ ok (record { plane = w; points = map (pointOf ps) f })
 unfolding faceOf
@@ -165,7 +155,7 @@ pub stored-refused : (counted : Bool) (t : Precision) (s : Solid) (l : List Floa
 stored-refused counted t s l r e = go (check counted t s) e
   where
     go : (o : Outcome Cell) → verdictOf o ≡ D.Refused r → l ≡ stored o l
-    go (ok c) h = unfold verdictOf Good in absurd (subst Good h tt)
+    go (ok c) h = unfold verdictOf in never-fine (sym h)
     go (refused x) h = unfold stored in refl
 
 -- a checked solid's cell has its numbers of corners

@@ -4,8 +4,8 @@ use mathlib.Core.Bool.{Bool}
 use mathlib.Core.List.{List}
 use Prim.Native.Nat.{ℕ}
 use Rattle.refusal.specs.Outcome.{ok}
+use Rattle.refusal.specs.Laws.{same-ok, then-ok}
 use Rattle.space.specs.Shapes.{Face, Cell}
-use Rattle.polygon.specs.Members.{same-ok, then-ok}
 use Rattle.job.specs.declared.Layout.{Layout}
 use Rattle.jobs.specs.Jobs.{openJob, Both, bothOf}
 use Rattle.pieces.specs.Pieces.{piecesOf}

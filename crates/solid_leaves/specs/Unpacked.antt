@@ -13,6 +13,7 @@ use Rattle.refusal.specs.declared.Refusal.{Refusal}
 use Rattle.refusal.specs.declared.Verdict.{Verdict}
 use Rattle.refusal.specs.Outcome.{Outcome, ok, refused, verdictOf, numberOf}
 use Rattle.refusal.specs.Laws.{stop, go}
+use Rattle.refusal.specs.Tests.{and-true}
 use Rattle.space.specs.Shapes.{Cell}
 use Rattle.room.specs.Rooms.{countsAt}
 use Rattle.job.specs.declared.CellLayout.{CellLayout}
@@ -22,7 +23,6 @@ use Rattle.job.specs.Records.{facesOf}
 use Rattle.job.specs.Read.{cellLaid, cellLayout, solidAt, cellAt, readCell}
 use Rattle.pack.specs.Flat.{flat, joined, pointsFrom, facesFrom}
 use Rattle.solids.specs.Frames.{Placing}
-use Rattle.topology.specs.Chains.{and-true}
 use Rattle.solid_check.specs.Check.{check}
 use Rattle.solid_check.specs.Check as K
 use Rattle.intake.specs.Unpacked.{solid-mean, placing-mean}

@@ -5,7 +5,7 @@ use mathlib.Core.List.{List, [], _∷_, _++_, append-assoc, append-nil, map}
 use Prim.Native.Nat.{ℕ, _+_, _-_, _*_, _/_, _≤_, _<_}
 use native.Mathlib.Omega.{arith}
 use native.Mathlib.Nat.{add-zero}
-use lib.ListN.{length, take, drop, getD, length-append, length-map, length-take, drop-of-length-le}
+use lib.ListN.{length, take, getD, length-append, length-take, drop-of-length-le}
 use lib.Seq.{sets, sets-eq, take-at, length-sets, length-take-le}
 use lib.Dec.{ltb}
 use lib.Ieee.{Float}
@@ -25,11 +25,10 @@ use Rattle.words.specs.Little.{digits}
 use Rattle.job.specs.declared.FacetLayout.{FacetLayout}
 use Rattle.job.specs.declared.FacetLaid.{FacetLaid}
 use Rattle.job.specs.declared.FacetLaid.the-variants as F
-use Rattle.job.specs.Records.{bodies}
-use Rattle.job.specs.Bytes.{Facet, pointOf}
+use Rattle.job.specs.Bytes.{Facet}
 use Rattle.job.specs.Read.{facetLaid, facetLayout, facetAt, readFacet}
-use Rattle.job.specs.Points.{length-bodies}
 use Rattle.pack.specs.Flat.{flat, coordinates, pointsFrom}
+use Rattle.pack.specs.Laws.{length-from}
 use Rattle.writer.specs.Rows.{row, Rowing, rowing-start, rowing-turn, rowing-end, length-row}
 use Rattle.answer.specs.Laws.{then-sets, length-count}
 use Rattle.ended.specs.Ends.{toldOf, written}
@@ -101,10 +100,6 @@ flat-floats : (l : List Point3) → flat l ≡ floatsOf l
 unfolding flat coordinates
 flat-floats [] = refl
 flat-floats (p ∷ l) = ap (λ r. p .x ∷ p .y ∷ p .z ∷ r) (flat-floats l)
-
-length-from : (l : List ℕ) (at n : ℕ) → length (pointsFrom l at n) ≡ n
-unfolding pointsFrom
-length-from l at n = length-map (bodies 24 n (drop at l)) pointOf ∙ length-bodies 24 n (drop at l)
 
 corners-taken : (s : List Float) (ps : List Point3) (n : ℕ) → length ps ≡ n → 3 * n ≤ length s → take (3 * n) (sets s 0 (flat ps)) ≡ floatsOf ps
 corners-taken s ps n e h =

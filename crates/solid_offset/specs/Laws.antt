@@ -10,29 +10,27 @@ use lib.Dec.{leb}
 use lib.Ieee.{Float}
 use borrow.Author.Tests.{leb-true}
 use Rattle.refusal.specs.declared.Refusal.{Refusal}
-use Rattle.refusal.specs.declared.Verdict.{Verdict}
 use Rattle.refusal.specs.declared.Verdict.the-variants as D
 use Rattle.refusal.specs.Outcome.{Outcome, ok, refused, refusalOf, then, unless}
 use Rattle.refusal.specs.Laws.{stop, go}
+use Rattle.refusal.specs.Tests.{and-true}
 use Rattle.space.specs.declared.Precision.{Precision}
 use Rattle.space.specs.Shapes.{Cell, corners}
 use Rattle.room.specs.Rooms.{cellAt, countsAt}
-use Rattle.room.specs.Laws.{length-cellCounts}
+use Rattle.room.specs.Laws.{length-cellCounts, cell-counts}
 use Rattle.job.specs.declared.CellLayout.{CellLayout}
 use Rattle.job.specs.declared.CellLaid.{CellLaid}
 use Rattle.job.specs.declared.CellLaid.the-variants as C
 use Rattle.job.specs.Read.{cellLaid, solidAt}
 use Rattle.solids.specs.Faces.{length-face}
-use Rattle.topology.specs.Chains.{and-true}
-use Rattle.offset.specs.Indexes.{cell-counts}
 use Rattle.hollow.specs.Hollows.{thick}
 use Rattle.solid_check.specs.Check.{check}
 use Rattle.built.specs.Built.{Bench}
 use Rattle.intake.specs.declared.Taken.{Taken}
-use Rattle.intake.specs.Intake.{takenOf, Stands, Took}
+use Rattle.intake.specs.Intake.{Stands, Took}
 use Rattle.intake.specs.Layouts.{Stood}
 use Rattle.jobs.specs.Jobs.{openCell}
-use Rattle.jobs.specs.Laws.{cell-opened}
+use Rattle.jobs.specs.Laws.{cell-opened, taken-fine, taken-not}
 use Rattle.ended.specs.declared.Ended.{Ended}
 use Rattle.ended.specs.Ends.{fitted, stopped, Handed, written, toldBy, toldOf}
 use Rattle.ended.specs.Laws.{handed-not}
@@ -87,31 +85,13 @@ brief-as o p a a′ r e h = subst (λ z. Brief (fitted (length a) z) a a′ r) (
 
 -- ---- the solid
 
-Fair : Verdict → Type 0
-Fair D.Fine = Unit
-Fair (D.Refused r) = ⊥
-
-numbered : Refusal → Verdict → Refusal
-numbered x D.Fine = x
-numbered x (D.Refused r) = r
-
-taken-made : (o : Outcome Cell) (r : Taken) → r ≡ takenOf o → r .verdict ≡ D.Fine → (c : Cell) × (o ≡ ok c)
-unfolding takenOf Fair
-taken-made (ok c) r e v = (c, refl)
-taken-made (refused x) r e v = absurd (subst Fair (sym (sym (ap (λ z. z .verdict) e) ∙ v)) tt)
-
-taken-not : (o : Outcome Cell) (r : Taken) (x : Refusal) → r ≡ takenOf o → r .verdict ≡ D.Refused x → o ≡ refused x
-unfolding takenOf Fair numbered
-taken-not (ok c) r x e v = absurd (subst Fair (sym (ap (λ z. z .verdict) e) ∙ v) tt)
-taken-not (refused y) r x e v = ap (λ z. refused (numbered y z)) (sym (ap (λ z. z .verdict) e) ∙ v)
-
 module _ (f : Cell → Outcome (List ℕ)) (o : Outcome Cell) (r : Taken) (s : List Float) (counts : List ℕ) (T : Took o r s counts) where
   solid-stops : (a : List ℕ) (x : Refusal) (e : Ended) → r .verdict ≡ D.Refused x → e ≡ stopped x → Brief (fitted (length a) (then o f)) a a e
   solid-stops a x e v g = brief-not (then o f) a e x (stop o f x (taken-not o r x (T .is) v)) g
 
   module _ (v : r .verdict ≡ D.Fine) where
-    stands : Stands (taken-made o r (T .is) v .0) (r .faces) s counts
-    stands = T .holds (taken-made o r (T .is) v .0) (taken-made o r (T .is) v .1)
+    stands : Stands (taken-fine o r (T .is) v .0) (r .faces) s counts
+    stands = T .holds (taken-fine o r (T .is) v .0) (taken-fine o r (T .is) v .1)
 
     solid-given : Given s counts (r .faces)
     solid-given = record {
@@ -121,7 +101,7 @@ module _ (f : Cell → Outcome (List ℕ)) (o : Outcome Cell) (r : Taken) (s : L
     }
 
     solid-ends : (a a′ : List ℕ) (e : Ended) → Brief (fitted (length a) (f (cellAt s 0 (countsAt counts 0 (r .faces))))) a a′ e → Brief (fitted (length a) (then o f)) a a′ e
-    solid-ends a a′ e h = brief-as (then o f) (f (cellAt s 0 (countsAt counts 0 (r .faces)))) a a′ e (go o f (taken-made o r (T .is) v .0) (taken-made o r (T .is) v .1) ∙ ap f (sym (stands .is))) h
+    solid-ends a a′ e h = brief-as (then o f) (f (cellAt s 0 (countsAt counts 0 (r .faces)))) a a′ e (go o f (taken-fine o r (T .is) v .0) (taken-fine o r (T .is) v .1) ∙ ap f (sym (stands .is))) h
 
 pub taken-given : {o : Outcome Cell} {r : Taken} {s : List Float} {counts : List ℕ} → Took o r s counts → r .verdict ≡ D.Fine → Given s counts (r .faces)
 taken-given {o} {r} {s} {counts} T v = solid-given (λ _. refused (refusalOf 0)) o r s counts T v

@@ -8,13 +8,13 @@ use lib.ListN.{length, length-append, length-map}
 use lib.Dec.{ltb}
 use lib.Ieee.{Float, neg}
 use Rattle.refusal.specs.Outcome.{Outcome, ok, refused, unless, each}
+use Rattle.refusal.specs.Laws.{same-ok, then-ok, unless-ok}
 use Rattle.space.specs.declared.Precision.{Precision}
 use Rattle.space.specs.Shapes.{Cell, Solid, corners}
-use Rattle.polygon.specs.Members.{same-ok, then-ok}
 use Rattle.room.specs.Rooms.{cellCounts}
 use Rattle.room.specs.Laws.{length-cellCounts}
-use Rattle.room.specs.Steps.{unless-ok}
 use Rattle.indexed.specs.Stored.{flat}
+use Rattle.indexed.specs.Laws.{flat-corners}
 use Rattle.words.specs.Little.{digits}
 use Rattle.offset.specs.Offsets.{offsetCell}
 use Rattle.offset.specs.Indexes.{corners-same, indexed-few, indexed-counts}
@@ -24,11 +24,11 @@ use Rattle.solid_check.specs.Check.{cellOf}
 use Rattle.solid_check.specs.Laws.{check-passed, check-counted}
 use Rattle.built.specs.Built.{built}
 use Rattle.answer.specs.Answers.{solidAnswer, shellAnswer}
-use Rattle.answer.specs.Laws.{length-count}
+use Rattle.answer.specs.Laws.{length-count, solid-size}
 use Rattle.ended.specs.declared.Ended.{Ended}
 use Rattle.ended.specs.Ends.{fitted, Handed}
 use Rattle.offset_answer.specs.Calls.{offsetAnswer, builtAnswer, offsetCall}
-use Rattle.offset_answer.specs.Laws.{solid-size, flat-corners, built-indexed}
+use Rattle.offset_answer.specs.Laws.{built-indexed}
 use Rattle.hollow_answer.specs.Calls.{builtCell, hollowAnswer, answerOf, wallCall, shellCall, hollowCall}
 use Rattle.hollow_answer.specs.Laws.{shell-size, hollow-parts, reversed-counts}
 

@@ -5,9 +5,10 @@ use mathlib.Core.List.{List}
 use Prim.Native.Nat.{ℕ}
 use lib.Ieee.{Float, neg}
 use Rattle.refusal.specs.Outcome.{Outcome, ok, refused, then, unless}
+use Rattle.refusal.specs.Laws.{then-ok}
 use Rattle.space.specs.declared.Precision.{Precision}
 use Rattle.space.specs.Shapes.{Cell}
-use Rattle.polygon.specs.Members.{All, then-ok}
+use Rattle.polygon.specs.Members.{All}
 use Rattle.room.specs.Steps.{then-then}
 use Rattle.side.specs.declared.Side.the-variants as S
 use Rattle.side.specs.Sides.{sideOf}

@@ -5,14 +5,12 @@ use Prim.Native.Nat.{ℕ, suc, _+_, _-_, _*_, _≤_, _<_}
 use native.Mathlib.Omega.{arith}
 use lib.ListN.{length, drop, length-append}
 use lib.Seq.{drop-at}
-use Rattle.space.specs.declared.Plane.{Plane}
 use Rattle.space.specs.Shapes.{Face}
 use Rattle.words.specs.Little.{digits}
 use Rattle.job.specs.Written.{pointBytes}
 use Rattle.writer.specs.Rows.{row}
-use Rattle.writer.specs.Laws.{length-point}
 use Rattle.answer.specs.Answers.{planeBytes, facetAnswer, shellAnswer}
-use Rattle.answer.specs.Laws.{length-count, length-facet}
+use Rattle.answer.specs.Laws.{length-count, length-facet, length-plane}
 use Rattle.fused_bytes.specs.Bytes.{shellsAnswer, bodyAnswer, fusedAnswer}
 use Rattle.lines.specs.Turns.{walk-body, walk-none}
 use Rattle.lines.specs.Text.{answerLine, bodyLine, shellLine, count, behind, skip, walk, linesOf}
@@ -38,15 +36,6 @@ count-digits : (x : ℕ) (r : List ℕ) → x < 4294967296 → count (digits 4 x
 unfolding count digits
 count-digits x r h = omega (arith, h)
 
-length-planeBytes : (w : Plane) → length (planeBytes w) ≡ 96
-unfolding planeBytes
-length-planeBytes w =
-    let o = pointBytes (w .frame .origin) in
-    let x = pointBytes (w .frame .x) in
-    let y = pointBytes (w .frame .y) in
-    let z = pointBytes (w .frame .z) in
-    omega (arith, length-append o (x ++ (y ++ z)), length-append x (y ++ z), length-append y z, length-point (w .frame .origin), length-point (w .frame .x), length-point (w .frame .y), length-point (w .frame .z))
-
 behind-facet : (f : Face) (r : List ℕ) → length (facetAnswer f) < 4294967296 → behind (facetAnswer f ++ r) ≡ r
 unfolding behind facetAnswer
 behind-facet f r h =
@@ -54,7 +43,7 @@ behind-facet f r h =
     let n = length (f .points) in
     let t = row pointBytes (f .points) in
     let e : drop 96 ((p ++ (digits 4 n ++ t)) ++ r) ≡ digits 4 n ++ (t ++ r) =
-    ap (drop 96) (append-assoc p (digits 4 n ++ t) r) ∙ drop-at p ((digits 4 n ++ t) ++ r) 96 (length-planeBytes (f .plane)) ∙ append-assoc (digits 4 n) t r in
+    ap (drop 96) (append-assoc p (digits 4 n ++ t) r) ∙ drop-at p ((digits 4 n ++ t) ++ r) 96 (length-plane (f .plane)) ∙ append-assoc (digits 4 n) t r in
     let c : count (drop 96 ((p ++ (digits 4 n ++ t)) ++ r)) ≡ n = ap count e ∙ count-digits n (t ++ r) (omega (arith, h, length-facet f)) in
     ap (λ k. drop (100 + 24 * k) ((p ++ (digits 4 n ++ t)) ++ r)) c ∙ drop-at (p ++ (digits 4 n ++ t)) r (100 + 24 * n) (length-facet f)
 

@@ -5,9 +5,9 @@ use mathlib.Core.List.{List}
 use Prim.Native.Nat.{ℕ, _*_, _≤_}
 use lib.ListN.{length}
 use Rattle.refusal.specs.Outcome.{ok}
+use Rattle.refusal.specs.Laws.{same-ok, then-ok}
 use Rattle.space.specs.declared.Precision.{Precision}
 use Rattle.space.specs.Shapes.{Solid, Cell}
-use Rattle.polygon.specs.Members.{same-ok, then-ok}
 use Rattle.room.specs.Laws.{all-map}
 use Rattle.clip.specs.Clips.{Wide}
 use Rattle.job.specs.declared.Layout.{Layout}

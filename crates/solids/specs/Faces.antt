@@ -18,8 +18,9 @@ use Rattle.space.specs.declared.Precision.{Precision}
 use Rattle.space.specs.Vector.{origin}
 use Rattle.space.specs.Frames.{facePlane}
 use Rattle.polygon.specs.Memory.{pointAt, pointsAt}
+use Rattle.polygon.specs.MemoryLaws.{length-pointsAt}
 use Rattle.room.specs.Rooms.{countsAt}
-use Rattle.room.specs.Laws.{next-point, points-done, next-count, counts-done, point-of, length-pointsAt}
+use Rattle.room.specs.Laws.{next-point, points-done, next-count, counts-done, point-of}
 use Rattle.lists.specs.Walks.{all}
 use Rattle.solids.specs.Apart.{firstOf, eachIn, apartAll}
 use Rattle.solids.specs.Frames.{pointOf, planeFor, facesAt, framedAll, Placing, sidesAll}
@@ -68,6 +69,13 @@ three-corners t ps l at n a b c h g x y z =
     ∙ ap (λ k. facePlane t k (pointOf ps (getD (countsAt l at n) 1 0)) (pointOf ps (getD (countsAt l at n) 2 0))) (ap (pointOf ps) p ∙ sym x)
     ∙ ap (λ k. facePlane t a k (pointOf ps (getD (countsAt l at n) 2 0))) (ap (pointOf ps) q ∙ sym y)
     ∙ ap (λ k. facePlane t a b k) (ap (pointOf ps) r ∙ sym z)
+
+-- ---- how many faces there are
+
+pub length-facesAt : (l : List ℕ) (at : ℕ) (ns : List ℕ) → length (facesAt l at ns) ≡ length ns
+unfolding facesAt
+length-facesAt l at [] = refl
+length-facesAt l at (n ∷ ns) = ap suc (length-facesAt l (at + n) ns)
 
 -- ---- a loop over n faces: j are done, and the corners of the next begin at a place
 

@@ -10,9 +10,9 @@ use lib.Seq.{sets}
 use lib.Ieee.{Float}
 use borrow.Author.Tests.{leb-true, ltb-true, le-leb, lt-leb}
 use Rattle.refusal.specs.Outcome.{Outcome, ok, refused, then, numberOf}
-use Rattle.polygon.specs.Members.{never-ok}
+use Rattle.refusal.specs.Laws.{never-ok}
+use Rattle.refusal.specs.Tests.{and-true}
 use Rattle.lent.specs.Lent.{numberBy, whereFine}
-use Rattle.lent.specs.Laws.{and-left, and-right}
 use Rattle.space.specs.Shapes.{Cell}
 use Rattle.stack.specs.declared.Stack.{Stack}
 use Rattle.stack.specs.Stacks.{stackOf, listAt, Listed, Places}
@@ -39,13 +39,13 @@ enough room d n z told e =
     let b = leb (room + 128) (length n) in
     let f = ltb room (length z) in
     let g = leb 3 (length told) in
-    let h = and-right (leb room 6400) ((a && b) && (f && g)) e in
-    let p = and-left (a && b) (f && g) h in
-    let q = and-right (a && b) (f && g) h in
+    let h = and-true (leb room 6400) ((a && b) && (f && g)) e .1 in
+    let p = and-true (a && b) (f && g) h .0 in
+    let q = and-true (a && b) (f && g) h .1 in
     record {
-      low = leb-true room 6400 (and-left (leb room 6400) ((a && b) && (f && g)) e);
-      places = record { place = leb-true (10 * room + 1536) (length d) (and-left a b p); slots = leb-true (room + 128) (length n) (and-right a b p); seats = ltb-true room (length z) (and-left f g q) };
-      tells = leb-true 3 (length told) (and-right f g q);
+      low = leb-true room 6400 (and-true (leb room 6400) ((a && b) && (f && g)) e .0);
+      places = record { place = leb-true (10 * room + 1536) (length d) (and-true a b p .0); slots = leb-true (room + 128) (length n) (and-true a b p .1); seats = ltb-true room (length z) (and-true f g q .0) };
+      tells = leb-true 3 (length told) (and-true f g q .1);
     }
 
 module _ (room : ℕ) (fits : Bool) (o : Outcome (List Cell)) (d : List Float) (n z l : List ℕ) where

@@ -10,7 +10,7 @@ use lib.Seq.{sets, sets-eq, take-at, drop-at, getD-at}
 use lib.Ieee.{Float}
 use Rattle.refusal.specs.declared.Refusal.{Refusal}
 use Rattle.refusal.specs.declared.Verdict.the-variants.{Fine}
-use Rattle.refusal.specs.Outcome.{Outcome, ok, refused, then, walk, heard}
+use Rattle.refusal.specs.Outcome.{Outcome, ok, refused, then, walk}
 use Rattle.space.specs.declared.Plane.{Plane}
 use Rattle.space.specs.declared.Planed.{Planed}
 use Rattle.space.specs.declared.Planed.the-variants as P
@@ -26,7 +26,7 @@ use Rattle.cell.specs.Laws.{Ahead, ahead-next, ahead-face, ahead-done}
 use Rattle.clip.specs.Clips.{Given, Wide}
 use Rattle.stack.specs.declared.Stack.{Stack}
 use Rattle.stack.specs.Stacks.{cellsFloats, cellsCounts, cellsSizes, behind, cellsAt, stackOf, listAt, Front, Sound, Lies, Listed, Holds, Places, Work}
-use Rattle.stack.specs.Laws.{length-cellsFloats, length-cellsSizes, behind-cell, listed-is, holds, numbers, listed-none, listed-refused, listed-same, places-on, work-on}
+use Rattle.stack.specs.Laws.{length-cellsFloats, length-cellsSizes, behind-cell, listed-is, holds, numbers, listed-none, listed-refused, listed-same, places-on, work-on, list-heard}
 use Rattle.split.specs.Splits.{splitCell}
 use Rattle.splits.specs.Planes.{splitOn, splitPlane, splitAll, planesAt, planesFloats, Standing}
 
@@ -225,17 +225,13 @@ list-carried room q s d n z d′ n′ z′ l k = subst (λ x. Listed room x s d�
 -- ---- the plane and its opposite
 
 module _ (room : ℕ) (s : Stack) (d : List Float) (n z : List ℕ) (h : Holds room s d n z) (v : s .verdict ≡ Fine) where
-  told : listAt s d n z ≡ ok (cellsAt d 0 n (take (s .cells) z))
-  unfolding listAt heard
-  told = ap (λ x. heard x (cellsAt d 0 n (take (s .cells) z))) v
-
   pub list-stands : Standing room (s .cells) d n z
   unfolding stackOf
-  list-stands = record { lies = h .lies _ told; many = sym (ap (λ x. x .cells) (h .is ∙ ap stackOf told)) }
+  list-stands = record { lies = h .lies _ (list-heard s d n z v); many = sym (ap (λ x. x .cells) (h .is ∙ ap stackOf (list-heard s d n z v))) }
 
   turned : (t : Precision) (w : Plane) (q : Outcome Plane) → oppositeOf t w ≡ q → then (listAt s d n z) (λ cs. splitPlane t room cs w) ≡ then q (λ o. splitOn t room w o (cellsAt d 0 n (take (s .cells) z)))
   unfolding splitPlane
-  turned t w q e = ap (λ x. then x (λ cs. splitPlane t room cs w)) told ∙ ap (λ x. then x (λ o. splitOn t room w o (cellsAt d 0 n (take (s .cells) z)))) e
+  turned t w q e = ap (λ x. then x (λ cs. splitPlane t room cs w)) (list-heard s d n z v) ∙ ap (λ x. then x (λ o. splitOn t room w o (cellsAt d 0 n (take (s .cells) z)))) e
 
   pub plane-made : (t : Precision) (w : Plane) (o : Planed) (back : Plane) (r : Stack) (d′ : List Float) (n′ z′ : List ℕ) → planed o ≡ oppositeOf t w → o ≡ P.Made back →
       Listed room (splitOn t room w back (cellsAt d 0 n (take (s .cells) z))) r d′ n′ z′ → Listed room (then (listAt s d n z) (λ cs. splitPlane t room cs w)) r d′ n′ z′

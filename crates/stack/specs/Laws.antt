@@ -5,16 +5,18 @@ use mathlib.Core.List.{List, [], _∷_, _++_, append-assoc, append-nil}
 use Prim.Native.Nat.{ℕ, suc, _+_, _*_, _≤_, _<_}
 use native.Mathlib.Omega.{arith}
 use native.Mathlib.Numerals.{add-one}
-use lib.ListN.{length, take, drop, set, getD, length-append, length-drop, length-set}
+use lib.ListN.{length, take, drop, set, getD, length-append, length-set}
 use lib.Seq.{sets, sets-eq, take-at, drop-at, take-suc, length-take-le}
 use lib.Dec.{ltb}
 use lib.Ieee.{Float}
 use borrow.Author.Tests.{ltb-true, ltb-false, lt-ltb, le-ltb, lt-leb}
 use Rattle.refusal.specs.declared.Refusal.{Refusal}
+use Rattle.refusal.specs.declared.Verdict.the-variants.{Fine}
 use Rattle.refusal.specs.Outcome.{Outcome, ok, refused, then, unless, walk, heard}
+use Rattle.refusal.specs.Laws.{same-ok, never-ok}
 use Rattle.space.specs.Shapes.{Face, Cell, corners, allCorners}
-use Rattle.polygon.specs.Members.{All, same-ok, never-ok}
-use Rattle.room.specs.Rooms.{cellFloats, cellCounts, cellAt, countsAt}
+use Rattle.polygon.specs.Members.{All}
+use Rattle.room.specs.Rooms.{cellFloats, cellCounts, cellAt}
 use Rattle.room.specs.Laws.{sets-append, corners-cons, corners-snoc, corners-none, length-cellFloats, length-cellCounts, cell-back, all-snoc}
 use Rattle.cell.specs.Cells.{isFull, addFace, leftCell}
 use Rattle.clip.specs.Clips.{Wide}
@@ -28,7 +30,7 @@ unfolding allCorners
 all-corners-from n [] = omega arith
 all-corners-from n (c ∷ cs) = omega (arith, all-corners-from (n + corners 0 c) cs, all-corners-from (0 + corners 0 c) cs)
 
-all-corners-cons : (c : Cell) (cs : List Cell) → allCorners 0 (c ∷ cs) ≡ corners 0 c + allCorners 0 cs
+pub all-corners-cons : (c : Cell) (cs : List Cell) → allCorners 0 (c ∷ cs) ≡ corners 0 c + allCorners 0 cs
 unfolding allCorners
 all-corners-cons c cs = all-corners-from (0 + corners 0 c) cs ∙ omega arith
 
@@ -108,6 +110,11 @@ cells-stored room cs d n z l =
     ∙ ap (cellsAt (cellsFloats cs ++ l .floats .tail) 0 (cellsCounts cs ++ l .counts .tail)) (ap (take (length cs)) (l .sizes .is) ∙ take-at (cellsSizes cs) (l .sizes .tail) (length cs) (length-cellsSizes cs))
     ∙ cells-back [] cs (l .floats .tail) 0 (l .counts .tail) refl
 
+-- where the verdict is fine the list is what is read
+pub list-heard : (s : Stack) (d : List Float) (n z : List ℕ) → s .verdict ≡ Fine → listAt s d n z ≡ ok (cellsAt d 0 n (take (s .cells) z))
+unfolding listAt heard
+list-heard s d n z v = ap (λ x. heard x (cellsAt d 0 n (take (s .cells) z))) v
+
 -- the slices hold the list that the stack tells
 pub listed-is : (room : ℕ) (o : Outcome (List Cell)) (s : Stack) (d : List Float) (n z : List ℕ) → Listed room o s d n z → listAt s d n z ≡ o
 unfolding listAt heard stackOf
@@ -166,7 +173,7 @@ unfolding cellsCounts
 counts-snoc [] c = append-nil (cellCounts c)
 counts-snoc (b ∷ cs) c = ap (λ l. cellCounts b ++ l) (counts-snoc cs c) ∙ sym (append-assoc (cellCounts b) (cellsCounts cs) (cellCounts c))
 
-sizes-snoc : (cs : List Cell) (c : Cell) → cellsSizes (cs ++ (c ∷ [])) ≡ cellsSizes cs ++ (length c ∷ [])
+pub sizes-snoc : (cs : List Cell) (c : Cell) → cellsSizes (cs ++ (c ∷ [])) ≡ cellsSizes cs ++ (length c ∷ [])
 unfolding cellsSizes
 sizes-snoc [] c = refl
 sizes-snoc (b ∷ cs) c = ap (λ l. length b ∷ l) (sizes-snoc cs c)
@@ -241,17 +248,6 @@ pub left-whole : (room : ℕ) (c : Cell) → length c ≤ 128 → leftCell room 
 unfolding leftCell
 left-whole room c h =
     left-from room [] c (omega arith) (omega (arith, corners-none)) ∙ ap (λ x. unless (ltb room x) 12 (ok c)) (omega (arith, corners-none))
-
--- ---- the number of faces of a cell in a room
-
-length-cellAt : (s : List Float) (at : ℕ) (ns : List ℕ) → length (cellAt s at ns) ≡ length ns
-unfolding cellAt
-length-cellAt s at [] = refl
-length-cellAt s at (n ∷ ns) = ap suc (length-cellAt s (at + 12 + 3 * n) ns)
-
-pub cell-faces : (s : List Float) (at : ℕ) (ns : List ℕ) (j faces : ℕ) → j + faces ≤ length ns → length (cellAt s at (countsAt ns j faces)) ≡ faces
-cell-faces s at ns j faces h =
-    length-cellAt s at (countsAt ns j faces) ∙ length-take-le faces (drop j ns) (omega (arith, length-drop j ns))
 
 -- ---- a copy from the front
 

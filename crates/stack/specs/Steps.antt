@@ -12,13 +12,12 @@ use borrow.Author.Tests.{ltb-true, ltb-false, lt-ltb, le-ltb}
 use Rattle.refusal.specs.declared.Refusal.{Refusal}
 use Rattle.refusal.specs.declared.Verdict.the-variants.{Fine, Refused}
 use Rattle.refusal.specs.Outcome.{Outcome, ok, refused, refusalOf, then, unless, heard}
+use Rattle.refusal.specs.Laws.{same-ok, never-ok, unless-ok}
 use Rattle.space.specs.declared.Plane.{Plane}
 use Rattle.space.specs.declared.Precision.{Precision}
 use Rattle.space.specs.Shapes.{Cell, Part, nothing, part, corners, allCorners}
-use Rattle.polygon.specs.Members.{same-ok, never-ok}
 use Rattle.room.specs.Rooms.{cellFloats, cellCounts, Small}
 use Rattle.room.specs.Laws.{length-cellCounts}
-use Rattle.room.specs.Steps.{unless-ok}
 use Rattle.cell.specs.declared.Kept.{Kept}
 use Rattle.cell.specs.Cells.{leftCell, Stored}
 use Rattle.clip.specs.declared.Clipped.{Clipped}

@@ -7,7 +7,7 @@ use native.Mathlib.Omega.{arith}
 use native.Mathlib.Decide.{decLe, decLt}
 use lib.ListN.{length, getD, set, replicate, length-set, length-replicate, getD-replicate}
 use lib.Seq.{getD-set-same, getD-set-other}
-use Rattle.sums.specs.Sum.{sum, hit, hit-cases, hit-same, occ, pick, flagged, open′, flagged-set, closed-set, _∈_, All, Each, none, here, there, cases-in, all-cons, seen-set, seen-keep, flag-le, flag-set, flag-of, full, flagged-all, flagged-zero, open-le}
+use Rattle.sums.specs.Sum.{sum, hit, hit-cases, hit-same, occ, pick, flagged, open′, flagged-set, closed-set, _∈_, All, Each, none, here, there, cases-in, all-cons, seen-set, seen-keep, flag-le, flag-set, flag-of, full, flagged-all, flagged-zero, open-le, some-of}
 use mathlib.Mathlib.Logic.Relation.{ReflTransGenᴰ, ReflTransGenᴰ·refl, ReflTransGenᴰ·tail, ReflTransGenᴰ·trans, ReflTransGenᴰ·symm}
 use Rattle.sums.specs.Components.{St, Got, grown, start, components, comps, gather, visits, visit, visit′}
 
@@ -182,6 +182,11 @@ abbrev pub Ascend : ℕ → List (List ℕ) → Type 0
 Ascend b [] = Unit {0}
 Ascend b (g ∷ gs) = (r : ℕ) × (rest : List ℕ) × (g ≡ r ∷ rest) × (b ≤ r) × All (λ x. r ≤ x) g × Ascend (suc r) gs
 
+-- so none of them is empty
+pub none-empty : (b : ℕ) (gs : List (List ℕ)) → Ascend b gs → Each (λ g. 0 < length g) gs
+none-empty b [] w = tt
+none-empty b (g ∷ gs) w = (omega (arith, ap length (w .2)), none-empty (suc (w .0)) gs (w .5))
+
 -- The adjacency lists of n nodes, each edge in the list of both of its ends.
 pub record Graph (n : ℕ) (adj : ℕ → List ℕ) : Type 0 where
   pub inside : (x y : ℕ) → y ∈ adj x → y < n
@@ -218,11 +223,7 @@ module _ (adj : ℕ → List ℕ) (n r : ℕ) (s : List ℕ) (G : Graph n adj) (
 
       go : Dec (1 ≤ getD s x 1) → (1 ≤ getD s x 1) ⊎ x ∈ g
       go (yes h) = inl h
-      go (no h) = ⊎-elim (λ (c : (1 ≤ flagged (hit x) s)). inl (flag-of x s c .1)) (λ c. inr c) (split (flagged (hit x) s) (occ x g) (omega (arith, node x, z)))
-        where
-          split : (a b : ℕ) → 1 ≤ a + b → (1 ≤ a) ⊎ (1 ≤ b)
-          split zero b h = inr (omega arith)
-          split (suc a) b h = inl (omega arith)
+      go (no h) = ⊎-elim (λ (c : (1 ≤ flagged (hit x) s)). inl (flag-of x s c .1)) (λ c. inr c) (some-of (flagged (hit x) s) (occ x g) (omega (arith, node x, z)))
 
   -- a node of the group is a node, and was not seen before
   inside : (x : ℕ) → x ∈ g → (x < n) × (getD s x 1 ≡ 0)

@@ -2,10 +2,10 @@
 use mathlib.Core.Path.{_≡_, refl, sym, ap, _∙_, subst}
 use mathlib.Core.Logic.{_⊎_, inl, inr, ⊎-elim, _≢_, _↔_}
 use mathlib.Core.List.{List, [], _∷_, _++_, map}
-use Prim.Native.Nat.{ℕ, zero, suc, _+_, _≤_, _<_}
+use Prim.Native.Nat.{ℕ, _+_, _≤_, _<_}
 use native.Mathlib.Omega.{arith}
 use lib.ListN.{length, getD}
-use Rattle.sums.specs.Sum.{sum, hit, hit-cases, hit-same, occ, pick, full, _∈_, Each, none, here, there, cases-in}
+use Rattle.sums.specs.Sum.{sum, hit, hit-cases, hit-same, occ, pick, full, _∈_, Each, none, here, there, cases-in, some-of}
 use Rattle.sums.specs.Keys.{key, order, users, led, flat, pairs, nbr, nbrs}
 use Rattle.sums.specs.KeyLaws.{sum-map, sum-flat, sum-order, full-at-least, occ-nbr, Sharing, pairs-each, users-all, users-has, users-key, users-le}
 
@@ -38,10 +38,6 @@ both-hit a c d b h = go (hit-cases a c) (hit-cases d b)
 hit-both : (a d : ℕ) → pick (hit a a) (hit d d) ≡ 1
 unfolding pick
 hit-both a d = rw (hit-same a) (hit-same d)
-
-split : (u v : ℕ) → 1 ≤ u + v → (1 ≤ u) ⊎ (1 ≤ v)
-split zero v h = inr (omega arith)
-split (suc u) v h = inl (omega arith)
 
 -- a list of at most two that has two
 pub only-two : (l : List ℕ) (x y : ℕ) → length l ≤ 2 → x ∈ l → y ∈ l → x ≢ y → (l ≡ x ∷ y ∷ []) ⊎ (l ≡ y ∷ x ∷ [])
@@ -76,7 +72,7 @@ module _ (ks : List (List ℕ)) (g : ℕ → ℕ) where
 
   joins-meet : (c d : ℕ) (p : ℕ × ℕ) → Sharing ks p → 1 ≤ joins c d p → Meet ks g c d
   unfolding joins
-  joins-meet c d p q h = go (split (pick (hit (g (p .0)) c) (hit d (g (p .1)))) (pick (hit (g (p .1)) c) (hit d (g (p .0)))) h)
+  joins-meet c d p q h = go (some-of (pick (hit (g (p .0)) c) (hit d (g (p .1)))) (pick (hit (g (p .1)) c) (hit d (g (p .0)))) h)
     where
       go : (1 ≤ pick (hit (g (p .0)) c) (hit d (g (p .1)))) ⊎ (1 ≤ pick (hit (g (p .1)) c) (hit d (g (p .0)))) → Meet ks g c d
       go (inl k) = let e = both-hit (g (p .0)) c d (g (p .1)) k in
@@ -87,7 +83,7 @@ module _ (ks : List (List ℕ)) (g : ℕ → ℕ) where
   find : (ps : List (ℕ × ℕ)) (c d : ℕ) → Each (Sharing ks) ps → 1 ≤ sum (joins c d) ps → Meet ks g c d
   unfolding sum
   find [] c d e m = absurd (omega arith)
-  find (p ∷ ps) c d e m = ⊎-elim (λ h. joins-meet c d p (e .0) h) (λ h. find ps c d (e .1) h) (split (joins c d p) (sum (joins c d) ps) m)
+  find (p ∷ ps) c d e m = ⊎-elim (λ h. joins-meet c d p (e .0) h) (λ h. find ps c d (e .1) h) (some-of (joins c d p) (sum (joins c d) ps) m)
 
   pub near-meet : (c d : ℕ) → d ∈ nbrs (map (owners g) (pairs ks)) c → Meet ks g c d
   near-meet c d m = find (pairs ks) c d (pairs-each ks) (omega (arith, nbrs-sum (pairs ks) c d))

@@ -146,13 +146,18 @@ flagged-past f (b ∷ s) zero z h = absurd (omega arith)
 flagged-past f (zero ∷ s) (suc x) z h = omega (arith, flagged-past (λ i. f (suc i)) s x (λ i n. z (suc i) (omega arith)) (omega arith))
 flagged-past f (suc b ∷ s) (suc x) z h = omega (arith, z 0 (omega arith), flagged-past (λ i. f (suc i)) s x (λ i n. z (suc i) (omega arith)) (omega arith))
 
-hit-other : (x i : ℕ) → i ≢ x → hit x i ≡ 0
+-- a sum that is not 0 has a part that is not
+pub some-of : (u v : ℕ) → 1 ≤ u + v → (1 ≤ u) ⊎ (1 ≤ v)
+some-of zero v h = inr (omega arith)
+some-of (suc u) v h = inl (omega arith)
+
+pub hit-other : (x i : ℕ) → i ≢ x → hit x i ≡ 0
 hit-other x i n = ⊎-elim (λ c. absurd (n (sym (c .0)))) (λ c. c .1) (hit-cases x i)
 
-pick-le : (b : ℕ) → pick b 1 ≤ 1
+pub pick-le : (b v : ℕ) → pick b v ≤ v
 unfolding pick
-pick-le zero = omega arith
-pick-le (suc b) = omega arith
+pick-le zero v = omega arith
+pick-le (suc b) v = omega arith
 
 pick-set : (b : ℕ) → 1 ≤ b → pick b 1 ≡ 1
 unfolding pick
@@ -169,7 +174,7 @@ pub flag-le : (x : ℕ) (s : List ℕ) → flagged (hit x) s ≤ 1
 flag-le x s = go (decLt x (length s))
   where
     go : Dec (x < length s) → flagged (hit x) s ≤ 1
-    go (yes h) = omega (arith, flagged-at (hit x) s x (hit-same x) (hit-other x) h, pick-le (getD s x 1))
+    go (yes h) = omega (arith, flagged-at (hit x) s x (hit-same x) (hit-other x) h, pick-le (getD s x 1) 1)
     go (no h) = omega (arith, flagged-past (hit x) s x (hit-other x) (omega arith))
 
 pub flag-set : (x : ℕ) (s : List ℕ) → x < length s → 1 ≤ getD s x 1 → flagged (hit x) s ≡ 1

@@ -4,14 +4,15 @@ use mathlib.Core.Bool.{Bool, true, false, _&&_, cond}
 use mathlib.Core.Logic.{_⊎_, inl, inr, ⊎-elim, _↔_}
 use mathlib.Core.List.{List, [], _∷_, map}
 use mathlib.Mathlib.Logic.Relation.{ReflTransGenᴰ, ReflTransGenᴰ·refl, ReflTransGenᴰ·tail}
-use Prim.Native.Nat.{ℕ, zero, suc, _+_, _/_, _≤_, _<_}
+use Prim.Native.Nat.{ℕ, suc, _+_, _/_, _≤_, _<_}
 use native.Mathlib.Omega.{arith}
 use lib.ListN.{length}
 use lib.Dec.{T, eqb, ltb}
 use borrow.Author.Tests.{eqb-true, eq-eqb}
+use Rattle.refusal.specs.Tests.{and-true}
 use Rattle.lists.specs.Walks.{all}
 use Rattle.room.specs.Rooms.{In}
-use Rattle.sums.specs.Sum.{sum, hit, hit-cases, hit-same, occ, pick, _∈_, Each, here}
+use Rattle.sums.specs.Sum.{sum, hit, hit-cases, hit-same, occ, pick, _∈_, Each, here, some-of}
 use Rattle.sums.specs.Keys.{nbr, nbrs}
 use Rattle.sums.specs.KeyLaws.{occ-nbr, pick-both, full-hit, full-find, graph-of}
 use Rattle.sums.specs.Components.{components}
@@ -37,10 +38,6 @@ Chained cs = ReflTransGenᴰ (Shares cs)
 
 not-both : {A : Type 0} {b : Bool} → b ≡ false → b ≡ true → A
 not-both e g = absurd (subst T (sym g ∙ e) tt)
-
-pub and-true : (a b : Bool) → a && b ≡ true → (a ≡ true) × (b ≡ true)
-and-true true b e = (refl, e)
-and-true false b e = not-both refl e
 
 pub all-in : {A : Type 0} (g : A → Bool) (l : List A) (b : Bool) → all g b l ≡ true → (b ≡ true) × ((x : A) → In x l → g x ≡ true)
 unfolding all In
@@ -128,10 +125,6 @@ joins-pairs cs (c ∷ l) =
 hit-of : (x y : ℕ) → 1 ≤ hit x y → x ≡ y
 hit-of x y h = ⊎-elim (λ c. c .0) (λ c. absurd (omega (arith, c .1))) (hit-cases x y)
 
-split : (u v : ℕ) → 1 ≤ u + v → (1 ≤ u) ⊎ (1 ≤ v)
-split zero v h = inr (omega arith)
-split (suc u) v h = inl (omega arith)
-
 occ-pair : (a b x y : ℕ) (ps : List (ℕ × ℕ)) → occ y (nbrs ((a, b) ∷ ps) x) ≡ pick (hit a x) (hit y b) + (pick (hit b x) (hit y a) + occ y (nbrs ps x))
 unfolding nbrs
 occ-pair a b x y ps = omega (arith, occ-nbr y a b (hit a x) (nbr b a (hit b x) (nbrs ps x)), occ-nbr y b a (hit b x) (nbrs ps x))
@@ -144,8 +137,8 @@ nbrs-find ((a, b) ∷ ps) x y h = ⊎-elim
     (λ v. ⊎-elim
     (λ u. let e = pick-both (hit b x) (hit y a) u in inr (inl (ap₂ (λ p q. (p, q)) (hit-of y a (e .1)) (sym (hit-of b x (e .0))))))
     (λ w. ⊎-elim (λ i. inl (inr i)) (λ i. inr (inr i)) (nbrs-find ps x y w))
-    (split (pick (hit b x) (hit y a)) (occ y (nbrs ps x)) v))
-    (split (pick (hit a x) (hit y b)) (pick (hit b x) (hit y a) + occ y (nbrs ps x)) (omega (arith, occ-pair a b x y ps)))
+    (some-of (pick (hit b x) (hit y a)) (occ y (nbrs ps x)) v))
+    (some-of (pick (hit a x) (hit y b)) (pick (hit b x) (hit y a) + occ y (nbrs ps x)) (omega (arith, occ-pair a b x y ps)))
 
 nbrs-has : (ps : List (ℕ × ℕ)) (x y : ℕ) → In (x, y) ps → y ∈ nbrs ps x
 unfolding In

@@ -7,11 +7,12 @@ use Prim.Native.Nat.{ℕ}
 use native.Mathlib.Omega.{arith}
 use lib.Dec.{ltb}
 use borrow.Author.Tests.{eqb-true}
+use Rattle.refusal.specs.Tests.{and-true}
 use Rattle.lists.specs.Walks.{all}
 use Rattle.room.specs.Rooms.{In}
 use Rattle.topology.specs.Topology.{Corner, count, isPoint, isEdge, once, fits}
 use Rattle.topology.specs.Corners.{paired}
-use Rattle.topology.specs.Chains.{and-true, all-in, count-find}
+use Rattle.topology.specs.Chains.{all-in, count-find}
 
 all-of : {A : Type 0} (g : A → Bool) (l : List A) (b : Bool) → b ≡ true → ((x : A) → In x l → g x ≡ true) → all g b l ≡ true
 unfolding all In

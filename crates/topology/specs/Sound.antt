@@ -14,6 +14,7 @@ use Rattle.groups.specs.Groups.{joinsOf, Within}
 use Rattle.room.specs.Rooms.{countsAt}
 use Rattle.solids.specs.Sides.{has}
 use Rattle.solids.specs.Frames.{facesAt}
+use Rattle.solids.specs.Faces.{length-facesAt}
 use Rattle.topology.specs.Topology.{Corner, cornerOf, cornersOf, fits, usedAll, faceWith, joins, connected, rounded, soundBy, sound}
 use Rattle.topology.specs.Corners.{cornersAt}
 use Rattle.topology.specs.Laws.{length-cornersAt, points-are}
@@ -52,11 +53,6 @@ module _ (n : ℕ) where
   joins-below cs (c ∷ l) e g zero h = g .0
   joins-below cs (c ∷ l) e g (suc zero) h = face-below (c .next) (c .point) (c .face) cs (g .0) e
   joins-below cs (c ∷ l) e g (suc (suc k)) h = joins-below cs l e (g .1) k (omega arith)
-
-length-facesAt : (l : List ℕ) (at : ℕ) (ns : List ℕ) → length (facesAt l at ns) ≡ length ns
-unfolding facesAt
-length-facesAt l at [] = refl
-length-facesAt l at (n ∷ ns) = ap suc (length-facesAt l (at + n) ns)
 
 pub faces-many : (l counts : List ℕ) (n : ℕ) → n ≤ length counts → length (facesAt l 0 (countsAt counts 0 n)) ≡ n
 faces-many l counts n h = length-facesAt l 0 (countsAt counts 0 n) ∙ length-take n counts ∙ omega arith

@@ -66,7 +66,7 @@ plane-2 = refl
 unfoldable pub faceOf : List Point3 → Outcome Face
 faceOf l = then (facePlane tol (getD l 0 nowhere) (getD l 1 nowhere) (getD l 2 nowhere)) (λ w. ok (record { plane = w; points = l }))
 
-box-cell : each faceOf [] boxFaces ≡ ok cellA
+pub box-cell : each faceOf [] boxFaces ≡ ok cellA
 unfolding openSpace faceOf
 box-cell = refl
 

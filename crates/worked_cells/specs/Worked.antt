@@ -28,14 +28,10 @@ use Rattle.built.specs.Built.{built}
 use Rattle.finish.specs.Finish.{finish}
 use Rattle.worked.specs.Open.{openSpace, openSide, openCut, openIndexed}
 use Rattle.worked.specs.Shapes.{tol, boxFaces, cellA}
-use Rattle.worked.specs.Worked.{faceOf}
+use Rattle.worked.specs.Worked.{faceOf, box-cell}
 use Rattle.worked_cells.specs.Values.{boxFaces13, b1, b2, b3, b4, b5, b6, cellB, cut1, cut3, cut5, solid7}
 
 -- ---- the steps, each by computation
-
-first-box : each faceOf [] boxFaces ≡ ok cellA
-unfolding openSpace faceOf
-first-box = refl
 
 second-box : each faceOf [] boxFaces13 ≡ ok cellB
 unfolding openSpace faceOf
@@ -75,7 +71,7 @@ abbrev pub commonOf : List (List Point3) → List (List Point3) → Outcome (Lis
 commonOf f g = then (each faceOf [] f) (λ a. then (each faceOf [] g) (λ b. cells Intersection tol 720 a b))
 
 p7 : commonOf boxFaces boxFaces13 ≡ ok (cut5 ∷ [])
-p7 = ap (λ o. then o (λ a. then (each faceOf [] boxFaces13) (λ b. cells Intersection tol 720 a b))) first-box
+p7 = ap (λ o. then o (λ a. then (each faceOf [] boxFaces13) (λ b. cells Intersection tol 720 a b))) box-cell
     ∙ ap (λ o. then o (λ b. cells Intersection tol 720 cellA b)) second-box ∙ common-7
 
 indexed-7 : indexed tol cut5 ≡ ok solid7

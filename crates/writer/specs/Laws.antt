@@ -13,11 +13,12 @@ use Rattle.space.specs.Shapes.{Solid}
 use Rattle.words.specs.Little.{digits, floatBytes}
 use Rattle.words.specs.Laws.{length-digits, length-float}
 use Rattle.polygon.specs.Memory.{pointsAt}
+use Rattle.polygon.specs.MemoryLaws.{length-pointsAt}
 use Rattle.room.specs.Rooms.{countsAt}
-use Rattle.room.specs.Laws.{sets-append, next-count, counts-done, length-pointsAt}
+use Rattle.room.specs.Laws.{sets-append, next-count, counts-done}
 use Rattle.job.specs.declared.Operation.{Operation}
 use Rattle.job.specs.Bytes.{recordsTo, facesTo, solidTo, jobBytes, operationByte}
-use Rattle.job.specs.Written.{precisionBytes, pointBytes, solidBodies, jobBodies}
+use Rattle.job.specs.Written.{precisionBytes, pointBytes, solidBodies, jobBodies, length-point}
 use Rattle.pack.specs.Flat.{precisionRecord, pointRecord, cornerRecord, operationRecord}
 use Rattle.solids.specs.Frames.{facesAt}
 use Rattle.writer.specs.Rows.{row, length-row, PointRow, points-end, NumberRow, numbers-end, FaceRow, faces-end}
@@ -49,11 +50,6 @@ solid-to s r =
     ∙ ap (λ x. x ++ r) (sym (records-to 2 p (facesTo f (5 ∷ []))))
 
 -- ---- lengths
-
-pub length-point : (p : Point3) → length (pointBytes p) ≡ 24
-unfolding pointBytes
-length-point p =
-    omega (arith, length-append (floatBytes (p .x)) (floatBytes (p .y) ++ floatBytes (p .z)), length-append (floatBytes (p .y)) (floatBytes (p .z)), length-float (p .x), length-float (p .y), length-float (p .z))
 
 -- ---- records of one kind are a row
 

@@ -1,7 +1,6 @@
 use Prim.Native.Nat.{_-_}
-use Rattle.job.specs.Written.{pointBytes}
+use Rattle.job.specs.Written.{pointBytes, length-point}
 use Rattle.writer.specs.Rows.{PointRow, points-start, points-turn, points-end}
-use Rattle.writer.specs.Laws.{length-point}
 use borrow.Author.Needs.{needs}
 use Rattle.answer.proofs.put_points.Statement.{statement}
 use Rattle.answer.proofs.put_points.Tie as tie

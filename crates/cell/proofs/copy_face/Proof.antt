@@ -1,7 +1,7 @@
 use mathlib.Core.Path.{_≡_, refl, sym, ap, _∙_}
 use Prim.Native.Nat.{_+_, _≤_, _<_}
 use native.Mathlib.Omega.{arith}
-use Rattle.room.specs.Laws.{length-pointsAt}
+use Rattle.polygon.specs.MemoryLaws.{length-pointsAt}
 use Rattle.cell.specs.Laws.{turned-stays, turned-full, turned-added, counted, not-full}
 use borrow.Author.Needs.{needs}
 use Rattle.cell.proofs.copy_face.Statement.{statement}

@@ -1,5 +1,6 @@
 use native.Mathlib.Omega.{arith}
-use Rattle.listing.specs.Listed.{part-one, part-three, last-in, facets-listed}
+use Rattle.keys.specs.Rows.{row-up}
+use Rattle.listing.specs.Listed.{part-three, last-in, facets-listed}
 use borrow.Author.Needs.{needs}
 use Rattle.listing.proofs.list_facets.Statement.{statement}
 use Rattle.listing.proofs.list_facets.Tie as tie
@@ -26,7 +27,7 @@ shared-slice-read-z : tie.Need-shared-slice-read-z
 shared-slice-read-z c = search needs
 
 copy-three-requires : tie.Need-copy-three-requires
-copy-three-requires c κs = (search (needs, part-one), search (needs, part-three), search (needs, last-in), search needs)
+copy-three-requires c κs = (search (needs, row-up), search (needs, part-three), search (needs, last-in), search needs)
 
 same-length : tie.Need-same-length
 same-length c = search needs

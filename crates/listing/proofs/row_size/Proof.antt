@@ -1,6 +1,6 @@
 use native.Mathlib.Omega.{arith}
-use Rattle.listing.specs.Listed.{row-up}
 use borrow.Author.Needs.{needs}
+use Rattle.keys.specs.Rows.{row-up}
 use Rattle.listing.proofs.row_size.Statement.{statement}
 use Rattle.listing.proofs.row_size.Tie as tie
 

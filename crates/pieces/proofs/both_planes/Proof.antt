@@ -1,4 +1,4 @@
-use Rattle.stack.specs.Laws.{cell-faces}
+use Rattle.room.specs.Laws.{cell-faces}
 use Rattle.pieces.specs.Laws.{planes-put}
 use borrow.Author.Needs.{needs}
 use native.Mathlib.Omega.{arith}

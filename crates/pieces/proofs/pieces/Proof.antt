@@ -1,5 +1,6 @@
 use mathlib.Core.Path.{refl, _∙_}
-use Rattle.stack.specs.Laws.{cell-faces, holds, places-on}
+use Rattle.room.specs.Laws.{cell-faces}
+use Rattle.stack.specs.Laws.{holds, places-on}
 use Rattle.pieces.specs.Laws.{place-of, pieces-listed}
 use native.Mathlib.Omega.{arith}
 use Rattle.pieces.proofs.pieces.Statement.{statement}

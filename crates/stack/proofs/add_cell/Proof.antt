@@ -1,5 +1,6 @@
 use mathlib.Core.Path.{refl}
-use Rattle.stack.specs.Laws.{numbers, cell-faces}
+use Rattle.room.specs.Laws.{cell-faces}
+use Rattle.stack.specs.Laws.{numbers}
 use Rattle.stack.specs.Steps.{listed-stays, whole-bound, whole-added, whole-refused}
 use native.Mathlib.Omega.{arith}
 use borrow.Author.Needs.{needs}
