@@ -4,7 +4,7 @@ use mathlib.Core.Logic.{_⊎_, inl, inr, ⊎-elim, _≢_, _↔_}
 use mathlib.Core.Bool.{Bool, true, false, not, _||_}
 use mathlib.Core.List.{List, [], _∷_, _++_, map}
 use mathlib.Mathlib.Logic.Relation.{ReflTransGenᴰ, ReflTransGenᴰ·refl, ReflTransGenᴰ·tail}
-use Prim.Native.Nat.{ℕ, zero, suc, _+_, _*_, _≤_, _<_}
+use Prim.Native.Nat.{ℕ, _+_, _*_, _≤_, _<_}
 use native.Mathlib.Omega.{arith}
 use lib.ListN.{length, getD, length-map}
 use lib.Dec.{T, eqb, eqb-refl}
@@ -12,18 +12,19 @@ use Rattle.refusal.specs.Outcome.{Outcome, ok, refused, unless}
 use Rattle.refusal.specs.Laws.{unless-ok}
 use Rattle.refusal.specs.Tests.{or-false}
 use Rattle.sums.specs.Sum.{sum, sum-one, hit, occ, _∈_, Each}
-use Rattle.sums.specs.Keys.{put, keep, users, pairs}
-use Rattle.sums.specs.KeyLaws.{sum-ext, each-append, each-imp, each-all, users-has}
-use Rattle.sums.specs.ComponentLaws.{Ascend}
+use Rattle.sums.specs.Keys.{users, pairs}
+use Rattle.sums.specs.KeyLaws.{sum-ext, each-imp, each-all, users-has}
+use Rattle.sums.specs.ComponentLaws.{Components}
 use Rattle.sums.specs.MeetLaws.{Two, only-two}
 use Rattle.sums.specs.CountLaws.{places-count}
 use Rattle.sums.specs.OrderLaws.{Sorted, sorted-lone, sorted-keep}
-use Rattle.bodies.specs.Fusing.{Facet, cellOf, verticesOf, sameCycle, keys, exterior, interfaces, facesOf, judgeUsers, Sense, outward, inward, shellsOf, bodyOf, materials, Bodies, fuse}
-use Rattle.bodies.specs.Passed.{Made, made-each}
+use Rattle.bodies.specs.Fusing.{Facet, cellOf, verticesOf, sameCycle, keys, exterior, interfaces, adjacency, facesOf, judgeUsers, Sense, outward, inward, shellsOf, bodyOf, materials, Bodies, fuse}
+use Rattle.bodies.specs.Passed.{Pairwise, Made, made-each, made-pairwise}
 use Rattle.bodies.specs.ListLaws.{isOutward, isInward, outOf, inOf, Ordered, Valid, size, keyOf, listed, listed-weight, owned-once, shared-never, cells, BodyMade, body-made, Answered, answered}
 use Rattle.bodies.specs.EdgeLaws.{runsEdge, ran, body-edges}
 use Rattle.bodies.specs.BodyLaws.{OneBody, one-bodies, users-judged, two-keys}
 use Rattle.bodies.specs.ShellLaws.{Touch, OneShell, one-shells}
+use Rattle.bodies.specs.Full.{Full, each-keep, each-shell, full-body, only-facets}
 
 -- Two facets of a body have an edge in common.
 pub record Beside (fs : List Facet) (b : List (List ℕ)) (i j : ℕ) : Type 0 where
@@ -38,8 +39,8 @@ pub record Beside (fs : List Facet) (b : List (List ℕ)) (i j : ℕ) : Type 0 w
 abbrev pub Shelled : List Facet → List (List ℕ) → List ℕ → Type 0
 Shelled fs b g = (i j : ℕ) → i ∈ g → 1 ≤ sum (occ j) b → (j ∈ g) ↔ ReflTransGenᴰ (Beside fs b) i j
 
--- What a body is.
-pub record IsBody (volume : List ℕ → Outcome Sense) (fs : List Facet) (b : List (List ℕ)) : Type 0 where
+-- What the body of some cells is.
+pub record IsBody (volume : List ℕ → Outcome Sense) (fs : List Facet) (material : List ℕ) (b : List (List ℕ)) : Type 0 where
   -- two facets of a body are in one shell exactly when they connect through edges inside that body
   pub shell : Each (Shelled fs b) b
   -- each edge of a body is run once each way
@@ -50,8 +51,9 @@ pub record IsBody (volume : List ℕ → Outcome Sense) (fs : List Facet) (b : L
   pub parts : b ≡ outer ∷ inner
   pub out : volume outer ≡ ok outward
   pub inn : Each (λ g. volume g ≡ ok inward) inner
+  -- its facets are those of its cells that no other facet meets
+  pub facets : (f : ℕ → ℕ) → sum (sum f) b ≡ sum f (facesOf fs material)
   -- the order inside a body: its facets by their keys, its inward shells as `components` finds them
-  pub material : List ℕ
   pub sorted : Sorted (keys fs) (facesOf fs material)
   pub found : (outer ∷ [] ≡ outOf volume (shellsOf fs material)) × (inner ≡ inOf volume (shellsOf fs material))
 
@@ -69,30 +71,20 @@ pub record Demand (volume : List ℕ → Outcome Sense) (fs : List Facet) (n : �
   pub interface : (i j : ℕ) → i < length fs → j < length fs → keyOf fs i ≡ keyOf fs j → j ≢ i → Interface fs i j
   -- two listed facets are in one body exactly when their cells connect through shared facets
   pub body : Each (OneBody fs bs) bs
-  -- shells, edges, outward and inward
-  pub each : Each (IsBody volume fs) bs
-  -- the order of bodies: by their lowest cell
-  pub ascend : Ascend 0 (materials fs n)
+  -- each cell stands in exactly one group, a group is what its cells reach through interfaces, and the groups ascend by their lowest cell
+  pub cells : Components n (adjacency fs) (materials fs n)
+  -- the bodies are made of the groups, in their order
   pub made : Made (bodyOf volume fs) (materials fs n) bs
+  -- facets, shells, edges, outward and inward, of each body and its group
+  pub each : Pairwise (IsBody volume fs) (materials fs n) bs
+  -- each body has a shell, and each shell a facet
+  pub full : Each Full bs
+  -- only facets are listed
+  pub inside : Each (Each (Each (λ i. i < length fs))) bs
   -- all facets of all cells = listed facets + twice the interfaces
   pub count : length fs ≡ sum (sum length) bs + 2 * length (interfaces fs)
 
 -- ---- the parts
-
-each-put {ℓ} : {A : Type ℓ} (P : A → Type 0) (t : ℕ) (x : A) (l : List A) → (1 ≤ t → P x) → Each P l → Each P (put t x l)
-unfolding put
-each-put P zero x l p e = e
-each-put P (suc t) x l p e = (p (omega arith), e)
-
-each-keep {ℓ} : {A : Type ℓ} (P : A → Type 0) (t : A → ℕ) (l : List A) → ((x : A) → 1 ≤ t x → P x) → Each P (keep t l)
-unfolding keep
-each-keep P t [] h = tt
-each-keep P t (x ∷ l) h = each-put P (t x) x (keep t l) (h x) (each-keep P t l h)
-
-each-kept {ℓ} : {A : Type ℓ} (P : A → Type 0) (t : A → ℕ) (l : List A) → Each P l → Each P (keep t l)
-unfolding keep
-each-kept P t [] e = tt
-each-kept P t (x ∷ l) e = each-put P (t x) x (keep t l) (λ _. e .0) (each-kept P t l (e .1))
 
 is-out : (s : Outcome Sense) → 1 ≤ isOutward s → s ≡ ok outward
 is-out (ok outward) h = refl
@@ -130,25 +122,21 @@ module _ (volume : List ℕ → Outcome Sense) (fs : List Facet) (c : List ℕ) 
       (λ g h i j hi hj. let e = h i j hi (omega (arith, m .weight (hit j))) in (λ k. to i j (e .0 k), λ r. e .1 (fro i j r)))
       (one-shells fs c (m .edges-fine))
 
-  shelled : Each (Shelled fs b) b
-  shelled = subst (Each (Shelled fs b)) (sym (m .shells .parts)) (each-append (Shelled fs b) (outOf volume (shellsOf fs c)) (inOf volume (shellsOf fs c))
-      (each-kept (Shelled fs b) (λ g. isOutward (volume g)) (shellsOf fs c) shells-found) (each-kept (Shelled fs b) (λ g. isInward (volume g)) (shellsOf fs c) shells-found))
-
-  is-body : IsBody volume fs b
+  is-body : IsBody volume fs c b
   unfolding facesOf
   is-body =
       let gs = shellsOf fs c in
       let o = single (outOf volume gs) (m .shells .one) in
       let q : Each (λ g. volume g ≡ ok outward) (o .0 ∷ []) = subst (Each (λ g. volume g ≡ ok outward)) (o .1) (each-keep (λ g. volume g ≡ ok outward) (λ g. isOutward (volume g)) gs (λ g h. is-out (volume g) h)) in
       record {
-        shell = shelled;
+        shell = each-shell volume fs c b m (Shelled fs b) shells-found;
         edge = body-edges volume fs c b m;
         outer = o .0;
         inner = inOf volume gs;
         parts = m .shells .parts ∙ ap (λ l. l ++ inOf volume gs) (o .1);
         out = q .0;
         inn = each-keep (λ g. volume g ≡ ok inward) (λ g. isInward (volume g)) gs (λ g h. is-in (volume g) h);
-        material = c;
+        facets = m .weight;
         sorted = sorted-keep (keys fs) (λ i. occ (cellOf fs i) c) (exterior fs) (sorted-lone (keys fs));
         found = (sym (o .1), refl);
       }
@@ -179,9 +167,11 @@ demand volume fs n valid bs e =
       interface = λ i j hi hj k d. interface-of fs i j (users-judged fs (a .facets-fine) i hi)
           (only-two (users (keys fs) i) i j (two-keys fs (a .facets-fine) i (omega arith)) (users-has (keys fs) i i (omega arith) refl) (users-has (keys fs) i j (omega arith) k) (λ q. d (sym q)));
       body = one-bodies volume fs n bs valid a;
-      each = made-each (bodyOf volume fs) (λ c. Unit {0}) (IsBody volume fs) (materials fs n) bs (λ c b m _. is-body volume fs c b (body-made volume fs c b m)) (a .made) (each-all (λ c. Unit {0}) (materials fs n) (λ c. tt));
-      ascend = cells fs n valid .ascend;
+      cells = cells fs n valid;
       made = a .made;
+      each = made-pairwise (bodyOf volume fs) (IsBody volume fs) (materials fs n) bs (λ c b m. is-body volume fs c b (body-made volume fs c b m)) (a .made);
+      full = made-each (bodyOf volume fs) (λ c. Unit {0}) Full (materials fs n) bs (λ c b m _. full-body volume fs c b (body-made volume fs c b m)) (a .made) (each-all (λ c. Unit {0}) (materials fs n) (λ c. tt));
+      inside = only-facets volume fs n bs valid a;
       count = counted (listed-weight volume fs n bs valid a (λ _. 1)) (two-keys fs (a .facets-fine));
     }
   where

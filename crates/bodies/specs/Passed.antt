@@ -11,12 +11,16 @@ unfolding walk
 walk-ok t [] u e = tt
 walk-ok t (x ∷ l) u e = let h = then-ok (t x) (λ _. walk (λ _ x. t x) tt l) u e in (h .1, walk-ok t l u (h .2))
 
--- each element of the second list is what f made of the first's at that place
+-- each element of the second list stands in R to the first's at that place
+abbrev pub Pairwise : {A B : Type 0} → (A → B → Type 0) → List A → List B → Type 0
+Pairwise R [] [] = Unit {0}
+Pairwise R [] (y ∷ ys) = ⊥
+Pairwise R (x ∷ l) [] = ⊥
+Pairwise R (x ∷ l) (y ∷ ys) = R x y × Pairwise R l ys
+
+-- it is what f made of it
 abbrev pub Made : {A B : Type 0} → (A → Outcome B) → List A → List B → Type 0
-Made f [] [] = Unit {0}
-Made f [] (y ∷ ys) = ⊥
-Made f (x ∷ l) [] = ⊥
-Made f (x ∷ l) (y ∷ ys) = (f x ≡ ok y) × Made f l ys
+Made f l ys = Pairwise (λ x y. f x ≡ ok y) l ys
 
 pub each-ok : {A B : Type 0} (f : A → Outcome B) (acc : List B) (l : List A) (ys : List B) → each f acc l ≡ ok ys → (zs : List B) × (ys ≡ acc ++ zs) × Made f l zs
 unfolding each
@@ -32,3 +36,10 @@ made-each f P Q [] [] h m e = tt
 made-each f P Q [] (y ∷ ys) h m e = absurd m
 made-each f P Q (x ∷ l) [] h m e = absurd m
 made-each f P Q (x ∷ l) (y ∷ ys) h m e = (h x y (m .0) (e .0), made-each f P Q l ys h (m .1) (e .1))
+
+-- a relation between what was made and what it was made of
+pub made-pairwise : {A B : Type 0} (f : A → Outcome B) (R : A → B → Type 0) (l : List A) (ys : List B) → ((x : A) (y : B) → f x ≡ ok y → R x y) → Made f l ys → Pairwise R l ys
+made-pairwise f R [] [] h m = tt
+made-pairwise f R [] (y ∷ ys) h m = absurd m
+made-pairwise f R (x ∷ l) [] h m = absurd m
+made-pairwise f R (x ∷ l) (y ∷ ys) h m = (h x y (m .0), made-pairwise f R l ys h (m .1))

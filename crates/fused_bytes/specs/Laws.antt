@@ -9,7 +9,7 @@ use lib.Ieee.{Float}
 use Rattle.refusal.specs.declared.Refusal.{Refusal}
 use Rattle.refusal.specs.declared.Verdict.the-variants.{Fine, Refused}
 use Rattle.refusal.specs.Outcome.{Outcome, ok, refused, then, heard}
-use Rattle.refusal.specs.Laws.{stop, go, same-ok, then-ok}
+use Rattle.refusal.specs.Laws.{stop, go, then-ok}
 use Rattle.space.specs.declared.Precision.{Precision}
 use Rattle.space.specs.Shapes.{Face, Cell}
 use Rattle.polygon.specs.Memory.{floatsOf}
@@ -30,13 +30,14 @@ use Rattle.keys.specs.Rows as K
 use Rattle.bodies.specs.Fusing as F
 use Rattle.bodies.specs.Fusing.{Bodies, fuse}
 use Rattle.bodies.specs.ListLaws.{Valid}
+use Rattle.bodies.specs.Demand.{demand}
 use Rattle.interfaces.specs.Facets.{facetsOf, many-facets}
 use Rattle.volume.specs.Shell as O
 use Rattle.cavities.specs.Steps.{volumeOf}
 use Rattle.parts.specs.Cells.{valid-cells}
 use Rattle.assembly.specs.Answer as A
 use Rattle.assembly.specs.Answer.{shellsIn}
-use Rattle.fuse.specs.Theorem.{Sound, fuse-sound}
+use Rattle.fuse.specs.Theorem.{each-shells}
 use Rattle.ended.specs.declared.Ended.{Ended}
 use Rattle.ended.specs.Ends.{endedOf, written}
 use Rattle.arrangement.specs.Arrangements.{facesOf, Arrangement, arrangeCells, laidOf}
@@ -50,7 +51,7 @@ use Rattle.fused_answer.specs.Lies.{laid-bodies, laid-stacked, laid-many}
 use Rattle.fuse_list.specs.declared.Listing.{Listing}
 use Rattle.fuse_list.specs.Lists.{bodiesOf, Ready, Told}
 use Rattle.fuse_list.specs.Laws.{points-are, starts-are, front-fused, points-corners, cycles-faces, list-cells, list-faces, list-corners, facets-of, list-ready}
-use Rattle.fused_bytes.specs.Size.{each-shells, cells-short}
+use Rattle.fused_bytes.specs.Size.{cells-short}
 use Rattle.fused_bytes.specs.Bytes.{shellsAnswer, bodyAnswer, fusedAnswer, answerOf, spotsAt, printed, printAt, Printable}
 
 -- ---- lists of lists
@@ -116,15 +117,8 @@ module _ {room : ℕ} {k : Stack} {d : List Float} {n j : List ℕ} (H : Holds r
     valid : Valid fs (k .cells)
     valid = valid-cells vs ss (take f w) f (k .cells) (ready .facetted .cells)
 
-    sound : Sound (volumeOf ps vs ss) fs (k .cells) x₀ z₀ b₀ x z b (y .fused)
-    unfolding A.Laid
-    sound = fuse-sound (volumeOf ps vs ss) fs (k .cells) valid x₀ z₀ b₀ x z b (y .fused) (subst (λ o. A.Laid o x₀ z₀ b₀ x z b (y .fused)) (sym fused) l) (ap (λ q. q .verdict) (l .0))
-
-    bodies-are : sound .bodies ≡ bs
-    bodies-are = same-ok (sym (sound .fused) ∙ fused)
-
-    inside : Each (λ i. i < f) (joined (shellsIn bs))
-    inside = subst (λ m. Each (λ i. i < m) (joined (shellsIn bs))) (many-facets vs ss (take f w) f) (subst (λ q. Each (λ i. i < length fs) (joined (shellsIn q))) bodies-are (sound .inside))
+    inside : Each (Each (Each (λ i. i < f))) bs
+    inside = subst (λ m. Each (Each (Each (λ i. i < m))) bs) (many-facets vs ss (take f w) f) (demand (volumeOf ps vs ss) fs (k .cells) valid bs fused .inside)
 
     -- how many there are
     facets-told : y .fused .facets ≡ length (joined (shellsIn bs))
@@ -174,7 +168,7 @@ module _ {room : ℕ} {k : Stack} {d : List Float} {n j : List ℕ} (H : Holds r
         ∙ ap₂ (λ m q. map (O.pointAt (floatsOf (a .points))) (K.row m q i)) (vertices-are (T .arranged) told facts cycles starts) (starts-are (T .arranged) told facts few points cycles starts owners) ∙ corners-are a i)
 
     pub prints : (spots : List ℕ) → room ≤ length spots → printed y d n p c s x z b spots ≡ fusedAnswer (drawnIn cs a bs)
-    prints spots q = printed-are spots ∙ bodies-same d (spotsAt y d n p c s x z b spots) ps vs ss f (facetIn a (facesOf cs)) (facet-same spots q) bs (each-shells (λ i. i < f) bs inside)
+    prints spots q = printed-are spots ∙ bodies-same d (spotsAt y d n p c s x z b spots) ps vs ss f (facetIn a (facesOf cs)) (facet-same spots q) bs inside
 
     -- they are at most 64 for each corner of the room, as those of any answer
     drawn : fuseCells t room cs ≡ ok (drawnIn cs a bs)
@@ -198,7 +192,7 @@ module _ {room : ℕ} {k : Stack} {d : List Float} {n j : List ℕ} (H : Holds r
       rows = ready .facetted .cycles .fine;
       vertices = ready .facetted .points;
       listed = omega (arith, facets-told, facets-long);
-      inside = λ i v. each-getD (λ i. i < f) (take (y .fused .facets) x) 0 i (subst (Each (λ i. i < f)) (sym facets-are) inside) v;
+      inside = λ i v. each-getD (λ i. i < f) (take (y .fused .facets) x) 0 i (subst (Each (λ i. i < f)) (sym facets-are) (each-shells (λ i. i < f) bs inside)) v;
       bodies = omega (arith, bodies-told, laid-many bs x₀ z₀ b₀ x z b (l .1) (l .2) (l .3));
       stacked = stacked;
       fits = omega (arith, bytes-few spots q, m);

@@ -4,8 +4,7 @@ use mathlib.Core.List.{List, [], _∷_, _++_, map}
 use Prim.Native.Nat.{ℕ, _+_, _*_, _≤_, _<_}
 use native.Mathlib.Omega.{arith}
 use lib.ListN.{length, getD, length-append, length-map}
-use Rattle.refusal.specs.declared.Verdict.the-variants.{Fine}
-use Rattle.refusal.specs.Outcome.{Outcome, ok}
+use Rattle.refusal.specs.Outcome.{ok}
 use Rattle.refusal.specs.Laws.{same-ok, then-ok}
 use Rattle.space.specs.declared.Precision.{Precision}
 use Rattle.space.specs.Shapes.{Face, Cell}
@@ -15,21 +14,16 @@ use Rattle.clip.specs.Clips.{Wide}
 use Rattle.sums.specs.Sum.{sum, hit, pick, full, Each, pick-le}
 use Rattle.sums.specs.Keys.{users}
 use Rattle.sums.specs.KeyLaws.{sum-lone, full-le, full-ext, each-imp, each-getD}
-use Rattle.groups.specs.Groups.{joined, bounds}
+use Rattle.groups.specs.Groups.{bounds}
 use Rattle.indexed.specs.Stored.{flat}
 use Rattle.writer.specs.Rows.{row}
 use Rattle.answer.specs.Answers.{facetAnswer, shellAnswer}
 use Rattle.answer.specs.Laws.{length-count, length-facet}
-use Rattle.bodies.specs.Fusing.{Facet, Bodies, keys, fuse}
+use Rattle.bodies.specs.Fusing.{Facet, Bodies, keys}
 use Rattle.bodies.specs.ListLaws.{Valid, size, answered, listed-weight}
+use Rattle.bodies.specs.Full.{Full}
 use Rattle.parts.specs.Cells.{valid-cells}
 use Rattle.interfaces.specs.Facets.{many-facets}
-use Rattle.assembly.specs.declared.Fused.{Fused}
-use Rattle.assembly.specs.Answer as A
-use Rattle.assembly.specs.Answer.{shellsIn}
-use Rattle.listing.specs.Appended.{appended}
-use Rattle.listing.specs.Listed.{joined-both}
-use Rattle.fuse.specs.Theorem.{Sound, Full, fuse-sound}
 use Rattle.arrange.specs.Arrange.{arrange}
 use Rattle.arrangement.specs.Arrangements.{facesOf, Arrangement, arrangeCells}
 use Rattle.arrangement.specs.Conforming.{Conforms, arranged}
@@ -76,21 +70,6 @@ unfolding All
 each-of P [] a = tt
 each-of P (x ∷ l) a = (a .0, each-of P l (a .1))
 
--- of a list of lists, and of bodies, what holds of each element
-both : (P : ℕ → Type 0) (a c : List ℕ) → Each P (a ++ c) → Each P a × Each P c
-both P [] c w = (tt, w)
-both P (i ∷ a) c w = let r = both P a c (w .1) in ((w .0, r .0), r .1)
-
-each-joined : (P : ℕ → Type 0) (b : List (List ℕ)) → Each P (joined b) → Each (Each P) b
-unfolding joined
-each-joined P [] e = tt
-each-joined P (l ∷ b) e = let r = both P l (joined b) e in (r .0, each-joined P b (r .1))
-
-pub each-shells : (P : ℕ → Type 0) (bs : Bodies) → Each P (joined (shellsIn bs)) → Each (Each (Each P)) bs
-unfolding shellsIn
-each-shells P [] e = tt
-each-shells P (b ∷ bs) e = let r = both P (joined b) (joined (shellsIn bs)) (subst (Each P) (joined-both b (shellsIn bs)) e) in (each-joined P b (r .0), each-shells P bs (r .1))
-
 full-flat : (cs : List (List ℕ)) → full (λ i. length (getD cs i [])) (length cs) ≡ length (flat cs)
 unfolding full flat
 full-flat [] = refl
@@ -132,28 +111,6 @@ module _ (t : Precision) (room : ℕ) (cs : List Cell) (out : List (List (List F
   facets-many : length fs ≡ length (a .cycles)
   facets-many = ap length (sym (facets-are a)) ∙ many-facets (flat (a .cycles)) (bounds 0 (a .cycles)) (a .owners) (length (a .cycles))
 
-  -- the facts of an answer, as of one that lies in slices of its own
-  abbrev told : Fused
-  told = record { verdict = Fine; bodies = length bs; shells = length (shellsIn bs); facets = length (joined (shellsIn bs)) }
-
-  laid : (o : Outcome Bodies) → o ≡ ok bs → A.Laid o [] [] [] (appended [] 0 (joined (shellsIn bs))) (appended [] 0 (map length (shellsIn bs))) (appended [] 0 (map length bs)) told
-  unfolding A.Laid
-  laid o q = subst (λ x. A.Laid x [] [] [] (appended [] 0 (joined (shellsIn bs))) (appended [] 0 (map length (shellsIn bs))) (appended [] 0 (map length bs)) told) (sym q) (refl, refl, refl, refl)
-
-  sound : Sound (volumeIn a) fs (length cs) [] [] [] (appended [] 0 (joined (shellsIn bs))) (appended [] 0 (map length (shellsIn bs))) (appended [] 0 (map length bs)) told
-  unfolding fuseIn
-  sound = fuse-sound (volumeIn a) fs (length cs) valid [] [] [] _ _ _ told (laid (fuse (volumeIn a) fs (length cs)) (F .fused)) refl
-
-  bodies-are : sound .bodies ≡ bs
-  unfolding fuseIn
-  bodies-are = same-ok (sym (sound .fused) ∙ F .fused)
-
-  full-bodies : Each Full bs
-  full-bodies = subst (Each Full) bodies-are (sound .full)
-
-  inside : Each (λ i. i < length fs) (joined (shellsIn bs))
-  inside = subst (λ l. Each (λ i. i < length fs) (joined (shellsIn l))) bodies-are (sound .inside)
-
   -- the corners of a facet are its cycle's
   abbrev drawn : ℕ → Face
   drawn = facetIn a (facesOf cs)
@@ -164,6 +121,11 @@ module _ (t : Precision) (room : ℕ) (cs : List Cell) (out : List (List (List F
 
   three : (i : ℕ) → i < length fs → Three drawn i
   three i h = omega (arith, corners-are i, each-getD (λ c. 3 ≤ length c) (a .cycles) [] i (each-of _ (a .cycles) (conforms .wide)) (omega (arith, facets-many)))
+
+  threes : Each (Each (Each (Three drawn))) bs
+  threes =
+      let Known : ℕ → Type 0 = λ i. i < length fs in
+      each-imp (Each (Each Known)) (Each (Each (Three drawn))) bs (λ b. each-imp (Each Known) (Each (Three drawn)) b (λ l. each-imp Known (Three drawn) l three)) (F .demands .inside)
 
   -- those of the listed facets are among those of all
   corners-few : sum (sum (sum (many drawn))) bs ≤ room
@@ -179,6 +141,6 @@ module _ (t : Precision) (room : ℕ) (cs : List Cell) (out : List (List (List F
       omega (
         arith,
         ap (λ l. length (fusedAnswer l)) (F .drawn),
-        bodies-fit drawn bs full-bodies (each-shells (Three drawn) bs (each-imp (λ i. i < length fs) (Three drawn) (joined (shellsIn bs)) three inside)),
+        bodies-fit drawn bs (F .demands .full) threes,
         corners-few,
       )

@@ -18,6 +18,7 @@ use Rattle.sums.specs.ComponentLaws.{Components, none-empty}
 use Rattle.keys.specs.Rows.{Starts, rows}
 use Rattle.groups.specs.Groups.{joined, Grouped, Within, joinsOf}
 use Rattle.bodies.specs.Fusing.{Sense, orderShells}
+use Rattle.bodies.specs.Full.{each-some}
 use Rattle.shells.specs.Named.{nameIn, Spread, found, many-nodes, node-in, joined-map}
 use Rattle.cavities.specs.Outer.{Ordered, outerOf}
 use Rattle.cavities.specs.Steps.{volumeOf, Shelled}
@@ -36,10 +37,6 @@ pub record Faced (v starts : List ℕ) (f : ℕ) (fl : List ℕ) : Type 0 where
   pub fine : Starts v starts f
   pub some : (k : ℕ) → k < f → getD starts k 0 < getD starts (k + 1) 0
   pub inn : (k : ℕ) → k < length fl → getD fl k 0 < f
-
-each-some : (h : ℕ → ℕ) (gs : List (List ℕ)) → Each (λ g. 0 < length g) gs → Each (λ g. 0 < length g) (map (map h) gs)
-each-some h [] e = tt
-each-some h (g ∷ gs) e = (omega (arith, e .0, length-map g h), each-some h gs (e .1))
 
 few-groups : (gs : List (List ℕ)) → Each (λ g. 0 < length g) gs → length gs ≤ length (joined gs)
 unfolding joined

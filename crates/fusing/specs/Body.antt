@@ -21,6 +21,7 @@ use Rattle.keys.specs.Rows.{Starts, row}
 use Rattle.groups.specs.Groups.{Within, joinsOf}
 use Rattle.groups.specs.Ends.{endsOf, joins-ends, within-ends}
 use Rattle.bodies.specs.Fusing as F
+use Rattle.bodies.specs.Full.{each-kept}
 use Rattle.interfaces.specs.Facets.{facetsOf, cell-at}
 use Rattle.edges.specs.declared.Paired.{Paired}
 use Rattle.edges.specs.Laid.{rowRuns, runs-rows, Listed}
@@ -65,16 +66,6 @@ fewer-runs v starts t p [] = omega arith
 fewer-runs v starts t p (i ∷ l) = omega (arith, length-put (t i) i v starts p (keep t l), more-runs v starts p i (keep t l) l (fewer-runs v starts t (suc p) l))
 
 -- ---- kept entries are entries
-
-each-put : (P : ℕ → Type 0) (t i : ℕ) (l : List ℕ) → P i → Each P l → Each P (put t i l)
-unfolding put
-each-put P zero i l p e = e
-each-put P (suc t) i l p e = (p, e)
-
-pub each-kept : (P : ℕ → Type 0) (t : ℕ → ℕ) (l : List ℕ) → Each P l → Each P (keep t l)
-unfolding keep
-each-kept P t [] e = tt
-each-kept P t (i ∷ l) e = each-put P (t i) i (keep t l) (e .0) (each-kept P t l (e .1))
 
 each-of : (P : ℕ → Type 0) (l : List ℕ) → ((k : ℕ) → k < length l → P (getD l k 0)) → Each P l
 each-of P [] h = tt
