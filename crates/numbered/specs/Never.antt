@@ -9,6 +9,8 @@ use lib.Dec.{T}
 use lib.Ieee.{binary64, lt, le, ofBits}
 use lib.Ieee.Bits.{ofBits-fits}
 use Rattle.refusal.specs.Outcome.{ok, then, unless}
+use Rattle.refusal.specs.Laws.{same-ok, then-ok, unless-ok}
+use Rattle.refusal.specs.Tests.{and-true}
 use Rattle.float.proofs.Laws.{Held, le-le}
 use Rattle.interval.specs.declared.Sign.{Sign}
 use Rattle.interval.specs.declared.Sign.the-variants as S
@@ -25,9 +27,6 @@ use Rattle.side.specs.Sides.{distanceOf, isPositive, isNegative, within, firstO
 use Rattle.edge.specs.declared.Meet.{Meet}
 use Rattle.edge.specs.declared.Meet.the-variants as M
 use Rattle.edge.specs.Meets.{crosses, vague, noRatio, between, landed, unlessVague, cutMeet, edgeMeet}
-use Rattle.polygon.specs.Members.{same-ok, then-ok}
-use Rattle.room.specs.Steps.{unless-ok}
-use Rattle.topology.specs.Chains.{and-true}
 use Rattle.words.specs.Little.{wordAt, floatAt}
 use Rattle.job.specs.declared.Layout.{Layout}
 use Rattle.job.specs.Records.{spanOf}
