@@ -394,7 +394,7 @@ pub fn fuse(report: &mut Report, seed: u64, scale: Scale) {
     let rare = jobs::rare().map(|(job, _)| (Call::Fuse, job.bytes()));
     layer.ask_all("what few jobs give", rare);
     layer.ask_lines();
-    let numbers: Vec<u64> = (0..=22).filter(|&n| n != 8).collect();
+    let numbers: Vec<u64> = (0..=23).filter(|&n| n != 8).collect();
     report.reached("fuse", &numbers);
 }
 

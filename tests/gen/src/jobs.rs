@@ -240,7 +240,7 @@ pub const FAMILIES: [Family<Job>; 19] = [
 type Make = fn(&mut Random) -> Job;
 
 /// Jobs whose fused call gives a number that few others reach: how one is made, from which seed, and the number.
-const RARE: [(Make, u64, u32); 16] = [
+const RARE: [(Make, u64, u32); 17] = [
     (|r| large(r, 64), 0, 11),
     (sixteenth, 79, 13),
     (sixteenth, 555, 13),
@@ -257,10 +257,11 @@ const RARE: [(Make, u64, u32); 16] = [
     (|r| both(r, split_side), 4077, 21),
     (|r| both(r, split_side), 4125, 22),
     (|r| both(r, split_side), 4758, 22),
+    (|_| turned_inward(), 0, 23),
 ];
 
 /// Each of these jobs with its number.
-pub fn rare() -> [(Job, u32); 16] {
+pub fn rare() -> [(Job, u32); 17] {
     RARE.map(|(make, seed, number)| (make(&mut Random::new(seed)), number))
 }
 
@@ -274,6 +275,67 @@ fn sliced() -> Job {
     };
     let tall = prism(62, 0.5, 20.0).shifted([4.0, 0.0, -11.0]);
     Job::usual(tall, bowl, Operation::Union)
+}
+
+/// Two tetrahedra a few times local in size: merged points and filled edges turn the only shell of their union inward.
+fn turned_inward() -> Job {
+    let of = |points: [Point; 4]| Solid {
+        points: points.to_vec(),
+        faces: vec![vec![0, 1, 2], vec![0, 3, 1], vec![0, 2, 3], vec![1, 3, 2]],
+    };
+    let first = of([
+        [
+            -0.004106109187383024,
+            -0.002353986625256772,
+            0.0056587947101579775,
+        ],
+        [
+            0.004740783616700758,
+            0.0014863187965347981,
+            -0.002596585836390596,
+        ],
+        [
+            0.003949764335345218,
+            -0.005440694521476321,
+            0.0030488819035327254,
+        ],
+        [
+            -0.00020803810631046088,
+            0.0043805549233772905,
+            0.005954570527654053,
+        ],
+    ]);
+    let second = of([
+        [
+            -0.0018189701860367455,
+            -0.002785224832175952,
+            0.013570241373476143,
+        ],
+        [
+            0.0005023739779338053,
+            0.0021486894693824,
+            -0.009950811903284545,
+        ],
+        [
+            -0.010620700861668199,
+            0.005556777451835578,
+            0.0019693955300502932,
+        ],
+        [
+            0.0026666691485003127,
+            -0.012582872587822331,
+            -0.0015324186017646809,
+        ],
+    ]);
+    Job {
+        tolerances: Tolerances {
+            linear: 1.0 / (1u64 << 40) as f64,
+            local: 1.0 / (1u64 << 8) as f64,
+        },
+        first,
+        second,
+        operation: Operation::Union,
+    }
 }
 
 /// A small box at a point of a solid of 64 faces: what is left of it may have more.
