@@ -41,7 +41,7 @@ point-sure x f = record { lo-held = f; hi-held = f; holds = λ B. point-holds x 
 point-finite : (x : Float) → Held x → T (finite x) → Finite (pointI x)
 point-finite x f k = record { lo-fits = f; hi-fits = f; bounded = record { lo-finite = k; hi-finite = k } }
 
-pub gap-ordered : (x o : Float) → Ordered (subI (pointI x) (pointI o))
+gap-ordered : (x o : Float) → Ordered (subI (pointI x) (pointI o))
 unfolding subI
 gap-ordered x o =
     let d = sub binary64 x o in

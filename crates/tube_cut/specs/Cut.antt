@@ -44,8 +44,8 @@ pub record Cut (t : Precision) (w : Plane) (c d : Cell) : Type 0 where
   -- the cell is left whole, or its last face is the cap, in the plane, and each corner of it lies within local of the plane
   pub cap : (d ≡ c) ⊎ Closed (NotOutside (t .local) w) (On (t .local) w) t w d
 
--- what is given: local is finite and not negative, all are values of the format, as every f64 of a program is, and the
--- distance of each corner has finite ends
+-- what is given of the cell before the cut: local is finite and not negative, all are values of the format, as every f64 of a
+-- program is, and the distance of each corner has finite ends, as that of a corner called Zero has (`zero-bounded`)
 pub record Cuttable (t : Precision) (w : Plane) (c : Cell) : Type 0 where
   pub local-held : Held (t .local)
   pub local-finite : T (finite (t .local))
