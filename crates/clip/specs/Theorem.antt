@@ -192,7 +192,7 @@ module _ (P Z : Point3 → Type 0) (t : Precision) (w : Plane) where
     pub kept : Corners P before
     pub zero : All Z cap
 
-  cut-closed : (room : ℕ) (c d : Cell) → All Fair c → cutCell t room w c ≡ ok d → Closed d
+  pub cut-closed : (room : ℕ) (c d : Cell) → All Fair c → cutCell t room w c ≡ ok d → Closed d
   unfolding cutCell cutFaces closed addFace
   cut-closed room c d h e =
       let r = then-ok (walk (cutFace t room w) (record { cell = []; cap = [] }) c) (closed t room w) d e in

@@ -362,7 +362,7 @@ up-place {x} a h =
     top n e l = let z : placeOf infBits < place (inf false) = subst (λ (i : ℕ). placeOf i < place (inf false)) e l in lt-irrefl (place (inf false)) z
 
 -- ---- the other sign mirrors the row
-neg-real : (x : Float) → T (not (isNan x)) → T (not (isNan (neg x)))
+pub neg-real : (x : Float) → T (not (isNan x)) → T (not (isNan (neg x)))
 unfolding neg isNan
 neg-real nan h = h
 neg-real (inf s) h = tt
@@ -371,11 +371,19 @@ neg-real (fin s m e) h = tt
 pub neg-number : {x : Float} → Number x → Number (neg x)
 neg-number {x} a = record { held = neg-fits binary64 x (a .held); real = neg-real x (a .real) }
 
-real-neg : (x : Float) → T (not (isNan (neg x))) → T (not (isNan x))
+pub real-neg : (x : Float) → T (not (isNan (neg x))) → T (not (isNan x))
 unfolding neg isNan
 real-neg nan h = h
 real-neg (inf s) h = tt
 real-neg (fin s m e) h = tt
+
+pub neg-twice : (x : Float) → neg (neg x) ≡ x
+unfolding neg
+neg-twice nan = refl
+neg-twice (inf true) = refl
+neg-twice (inf false) = refl
+neg-twice (fin true m e) = refl
+neg-twice (fin false m e) = refl
 
 pub number-neg : (x : Float) → T (fits binary64 x) → Number (neg x) → Number x
 number-neg x f a = record { held = f; real = real-neg x (a .real) }
@@ -502,6 +510,28 @@ place-units (inf s) y f g k l h = absurd k
 place-units (fin s m e) nan f g k l h = absurd l
 place-units (fin s m e) (inf t) f g k l h = absurd l
 
+-- and strictly
+spot-strict : (s t : Bool) (i j : ℕ) → i < infBits → j < infBits → spot s i < spot t j → cond s 0 (val i) + cond t (val j) 0 < cond t 0 (val j) + cond s (val i) 0
+spot-strict false false i j k l h = let v = val-mono i j (omega arith) in omega arith
+spot-strict true true i j k l h = let v = val-mono j i (omega arith) in omega arith
+spot-strict true false i j k l h = elim (side 0 i) [
+  | inl g ↦ let v = val-mono 0 i g in omega arith
+  | inr g ↦ let v = val-mono 0 j (omega arith) in omega arith
+]
+spot-strict false true i j k l h = absurd (omega arith)
+
+pub place-strict : (x y : Float) → T (fits binary64 x) → T (fits binary64 y) → T (finite x) → T (finite y) → place x < place y → plus x + minus y < plus y + minus x
+place-strict (fin s m e) (fin t n d) f g k l h =
+    let p = placed s m e f in
+    let q = placed t n d g in
+    let a = own s m e f in
+    let b = own t n d g in
+    simp (a .0, a .1, b .0, b .1) (spot-strict s t (p .at) (q .at) (p .inside) (q .inside) (subst (λ (z : ℕ). z < spot t (q .at)) (fin-place p) (subst (λ (z : ℕ). place (fin s m e) < z) (fin-place q) h)))
+place-strict nan y f g k l h = absurd k
+place-strict (inf s) y f g k l h = absurd k
+place-strict (fin s m e) nan f g k l h = absurd l
+place-strict (fin s m e) (inf t) f g k l h = absurd l
+
 -- ---- zero
 pub zero-number : Number (ofBits binary64 0)
 unfolding isNan ofBits
@@ -533,6 +563,23 @@ within (fin s m e) f k = let p = placed s m e f in go s (p .at) (fin-place p) (p
     go : (s : Bool) (b : ℕ) {x l r : ℕ} → x ≡ spot s b → b < infBits → l ≡ spot true infBits → r ≡ spot false infBits → (l < x) × (x < r)
     go true b h k i j = omega arith
     go false b h k i j = omega arith
+
+-- what is not below +infinity, and not above -infinity
+pub top : {x : Float} → Number x → place (inf false) ≤ place x → x ≡ inf false
+top {x} a h = go (kind x (a .real))
+  where
+    go : (x ≡ inf true) ⊎ ((x ≡ inf false) ⊎ T (finite x)) → x ≡ inf false
+    go (inl e) = let i = inf-place true in let j = inf-place false in let u = ap place e in absurd (omega arith)
+    go (inr (inl e)) = e
+    go (inr (inr k)) = let w = within x (a .held) k .1 in absurd (omega arith)
+
+pub bottom : {x : Float} → Number x → place x ≤ place (inf true) → x ≡ inf true
+bottom {x} a h = go (kind x (a .real))
+  where
+    go : (x ≡ inf true) ⊎ ((x ≡ inf false) ⊎ T (finite x)) → x ≡ inf true
+    go (inl e) = e
+    go (inr (inl e)) = let i = inf-place true in let j = inf-place false in let u = ap place e in absurd (omega arith)
+    go (inr (inr k)) = let w = within x (a .held) k .0 in absurd (omega arith)
 
 -- ---- a step goes one way, or stays
 pub up-moves : {x : Float} → Number x → place x ≤ place (nextUp x)

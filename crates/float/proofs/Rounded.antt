@@ -271,3 +271,14 @@ mul-up x y f g k l F G =
     (subst (λ (z : ℕ). times-plus x y * c + z ≤ plus u * 2 ^ 1074 * c + times-minus x y * c) (regroup (minus u) c (2 ^ 1074))
     (subst (λ (z : ℕ). times-plus x y * c + minus u * (c * 2 ^ 1074) ≤ z + times-minus x y * c) (regroup (plus u) c (2 ^ 1074))
     (rounded-up (h .rounded) (mul-pos (h .over-pos) (pow-pos 1074)) F G)))
+
+pub mul-down : (x y : Float) → T (fits binary64 x) → T (fits binary64 y) → T (finite x) → T (finite y) → T (finite (mul binary64 x y)) → T (finite (nextDown (mul binary64 x y)))
+    → plus (nextDown (mul binary64 x y)) * 2 ^ 1074 + times-minus x y ≤ times-plus x y + minus (nextDown (mul binary64 x y)) * 2 ^ 1074
+mul-down x y f g k l F G =
+    let h = multiplied x y f g k l in
+    let u = nextDown (mul binary64 x y) in
+    let c = h .over in
+    cancel (plus u * 2 ^ 1074) (minus u * 2 ^ 1074) (times-minus x y) (times-plus x y) c (h .over-pos)
+    (subst (λ (z : ℕ). z + times-minus x y * c ≤ times-plus x y * c + minus u * 2 ^ 1074 * c) (regroup (plus u) c (2 ^ 1074))
+    (subst (λ (z : ℕ). plus u * (c * 2 ^ 1074) + times-minus x y * c ≤ times-plus x y * c + z) (regroup (minus u) c (2 ^ 1074))
+    (rounded-down (h .rounded) (mul-pos (h .over-pos) (pow-pos 1074)) F G)))

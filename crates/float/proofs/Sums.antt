@@ -8,24 +8,24 @@ use native.Mathlib.Omega.{arith}
 use lib.Dec.{T}
 use lib.Pow.{pow-pos}
 use lib.IntN.{pos}
-use lib.Ieee.{Float, nan, inf, fin, binary64, isNan, round, le, lt, fits, neg, add, sub, toBits, ofBits}
+use lib.Ieee.{Float, nan, inf, fin, binary64, up, down, isNan, round, le, lt, fits, neg, add, sub, toBits, ofBits}
 use lib.Ieee.Bits.{ofBits-fits}
 use lib.Ieee.Fits.{round-fits, add-fits, neg-fits}
 use lib.Ieee.Order.{round-mono}
 use lib.Ieee.Scale.{round-same}
 use Rattle.float.specs.Float.{signBit, finite}
 use Rattle.float.specs.Exact.{plus, minus}
-use Rattle.float.proofs.Facts.{no, round-no-nan}
+use Rattle.float.proofs.Facts.{no, round-no-nan, sum-no-nan}
 use Rattle.float.proofs.Rounded.{Rounded, added, other, round-neg, neg-finite, neg-plus}
 use Rattle.float.proofs.Places.{place, placeOf, inf-place, place-least, place-most, kind, within, Number, le-of, le-at, lt-of, neg-number, number-neg, neg-place, positive-place, negative-place, side, place-units}
 
 rounds : (s : Bool) (a c : ℕ) → Number (round binary64 s a c)
 rounds s a c = record { held = round-fits binary64 s a c; real = no (round-no-nan binary64 s a c) }
 
-abbrev nought : Float
+abbrev pub nought : Float
 nought = fin false 0 (pos 0)
 
-nought-place : place nought ≡ signBit
+pub nought-place : place nought ≡ signBit
 unfolding place placeOf toBits
 nought-place = refl
 
@@ -47,7 +47,7 @@ module _ (a c b d : ℕ) (C : 0 < c) (D : 0 < d) where
       let y = turned b d in
       omega arith
 
-above-zero : (a c : ℕ) → 0 < c → signBit ≤ place (round binary64 false a c)
+pub above-zero : (a c : ℕ) → 0 < c → signBit ≤ place (round binary64 false a c)
 above-zero a c C = subst (λ (n : ℕ). n ≤ place (round binary64 false a c)) (ap place (round-zero 1 (omega arith)) ∙ nought-place) (keeps 0 1 a c (omega arith) C (omega arith))
 
 below-zero : (a c : ℕ) → 0 < c → place (round binary64 true a c) ≤ signBit
@@ -67,7 +67,7 @@ module _ (l a c p n a' c' p' n' : ℕ) (L : 0 < l) (h : p * c' + n' * c ≤ p' *
   both-zero : a * l + n ≡ 0 * l + p → 0 * l + n' ≡ a' * l + p' → a * c' + a' * c ≤ 0
   both-zero e e' = le-of-mul-le-mul-right {m = a * c' + a' * c} {n = 0} {k = l} (let u = ap (λ (z : ℕ). z * c') e in let v = ap (λ (z : ℕ). z * c) e' in omega arith) L
 
-rounded-place : {r r' : Float} {p n c p' n' c' : ℕ} → Rounded r p n c → Rounded r' p' n' c' → 0 < c → 0 < c' → p * c' + n' * c ≤ p' * c + n * c' → place r ≤ place r'
+pub rounded-place : {r r' : Float} {p n c p' n' c' : ℕ} → Rounded r p n c → Rounded r' p' n' c' → 0 < c → 0 < c' → p * c' + n' * c ≤ p' * c + n * c' → place r ≤ place r'
 rounded-place {r} {r'} {p} {n} {c} {p'} {n'} {c'} R R' C C' h =
     subst (λ (z : Float). place z ≤ place r') (sym (R .is)) (subst (λ (z : Float). place (round binary64 (R .sign) (R .size) c) ≤ place z) (sym (R' .is)) (go (R .sign) (R .size) (R .exact) (R' .sign) (R' .size) (R' .exact)))
   where
@@ -109,13 +109,13 @@ inf-add (inf false) true h = absurd h
 inf-add (inf false) false h = refl
 inf-add (fin s m e) t h = refl
 
-add-left : (x y : Float) → T (not (isNan (add binary64 x y))) → T (not (isNan x))
+pub add-left : (x y : Float) → T (not (isNan (add binary64 x y))) → T (not (isNan x))
 unfolding add isNan
 add-left nan y h = h
 add-left (inf s) y h = tt
 add-left (fin s m e) y h = tt
 
-add-right : (x y : Float) → T (not (isNan (add binary64 x y))) → T (not (isNan y))
+pub add-right : (x y : Float) → T (not (isNan (add binary64 x y))) → T (not (isNan y))
 unfolding add isNan
 add-right nan y h = absurd h
 add-right (inf s) nan h = h
@@ -125,30 +125,58 @@ add-right (fin s m e) nan h = h
 add-right (fin s m e) (inf t) h = tt
 add-right (fin s m e) (fin t n d) h = tt
 
+-- a sum of two numbers is a NaN only where they are the two infinities
+pub add-nan : (x y : Float) → T (not (isNan x)) → T (not (isNan y)) → T (isNan (add binary64 x y)) → ((x ≡ inf true) × (y ≡ inf false)) ⊎ ((x ≡ inf false) × (y ≡ inf true))
+unfolding add isNan
+add-nan nan y h k n = absurd h
+add-nan (inf s) nan h k n = absurd k
+add-nan (inf true) (inf true) h k n = absurd n
+add-nan (inf true) (inf false) h k n = inl (refl, refl)
+add-nan (inf false) (inf true) h k n = inr (refl, refl)
+add-nan (inf false) (inf false) h k n = absurd n
+add-nan (inf s) (fin t n d) h k m = absurd m
+add-nan (fin s m e) nan h k n = absurd k
+add-nan (fin s m e) (inf t) h k n = absurd n
+add-nan (fin s m e) (fin t n d) h k g = absurd (subst (λ (b : Bool). T b) (sum-no-nan binary64 s (m * up e * down d) t (n * up d * down e) (down e * down d)) g)
+
+-- a finite sum has finite terms
+pub finite-add : (x y : Float) → T (finite (add binary64 x y)) → T (finite x) × T (finite y)
+unfolding add
+finite-add nan y h = absurd h
+finite-add (inf s) nan h = absurd h
+finite-add (inf true) (inf true) h = absurd h
+finite-add (inf true) (inf false) h = absurd h
+finite-add (inf false) (inf true) h = absurd h
+finite-add (inf false) (inf false) h = absurd h
+finite-add (inf s) (fin t n d) h = absurd h
+finite-add (fin s m e) nan h = absurd h
+finite-add (fin s m e) (inf t) h = absurd h
+finite-add (fin s m e) (fin t n d) h = (tt, tt)
+
 pub add-numbers : (x y : Float) → T (fits binary64 x) → T (fits binary64 y) → T (not (isNan (add binary64 x y))) → Number x × (Number y × Number (add binary64 x y))
 add-numbers x y f g h = (record { held = f; real = add-left x y h }, (record { held = g; real = add-right x y h }, record { held = add-fits binary64 x y; real = h }))
 
-neg-back : (y : Float) (s : Bool) → neg y ≡ inf s → y ≡ inf (not s)
+pub neg-back : (y : Float) (s : Bool) → neg y ≡ inf s → y ≡ inf (not s)
 unfolding neg
 neg-back nan s e = cc
 neg-back (inf true) s e = cc
 neg-back (inf false) s e = cc
 neg-back (fin t n d) s e = cc
 
-finite-real : (x : Float) → T (finite x) → T (not (isNan x))
+pub finite-real : (x : Float) → T (finite x) → T (not (isNan x))
 unfolding isNan
 finite-real nan h = h
 finite-real (inf s) h = tt
 finite-real (fin s m e) h = tt
 
-leftmost : (x y : Float) (s : Bool) → x ≡ inf s → T (not (isNan (add binary64 x y))) → add binary64 x y ≡ inf s
+pub leftmost : (x y : Float) (s : Bool) → x ≡ inf s → T (not (isNan (add binary64 x y))) → add binary64 x y ≡ inf s
 leftmost x y s e r = ap (λ (z : Float). add binary64 z y) e ∙ add-inf s y (subst (λ (z : Float). T (not (isNan (add binary64 z y)))) e r)
 
-rightmost : (x y : Float) (s : Bool) → y ≡ inf s → T (not (isNan (add binary64 x y))) → add binary64 x y ≡ inf s
+pub rightmost : (x y : Float) (s : Bool) → y ≡ inf s → T (not (isNan (add binary64 x y))) → add binary64 x y ≡ inf s
 rightmost x y s e r = ap (add binary64 x) e ∙ inf-add x s (subst (λ (z : Float). T (not (isNan (add binary64 x z)))) e r)
 
 -- of two in order, the lower is -infinity, the higher is +infinity, or both are finite
-between : (x y : Float) → Number x → Number y → place x ≤ place y → (x ≡ inf true) ⊎ ((y ≡ inf false) ⊎ (T (finite x) × T (finite y)))
+pub between : (x y : Float) → Number x → Number y → place x ≤ place y → (x ≡ inf true) ⊎ ((y ≡ inf false) ⊎ (T (finite x) × T (finite y)))
 between x y a b h = go (kind x (a .real)) (kind y (b .real))
   where
     go : (x ≡ inf true) ⊎ ((x ≡ inf false) ⊎ T (finite x)) → (y ≡ inf true) ⊎ ((y ≡ inf false) ⊎ T (finite y)) → (x ≡ inf true) ⊎ ((y ≡ inf false) ⊎ (T (finite x) × T (finite y)))
@@ -290,11 +318,11 @@ one-place : place (ofBits binary64 1) ≡ signBit + 1
 unfolding place placeOf toBits ofBits
 one-place = refl
 
-unit-up : (x : Float) → T (fits binary64 x) → T (finite x) → signBit < place x → 1 + minus x ≤ plus x
+pub unit-up : (x : Float) → T (fits binary64 x) → T (finite x) → signBit < place x → 1 + minus x ≤ plus x
 unfolding ofBits
 unit-up x f k h = let e = one-place in let u = place-units (ofBits binary64 1) x (ofBits-fits binary64 1) f tt k (omega arith) in omega arith
 
-unit-down : (x : Float) → T (fits binary64 x) → T (finite x) → place x < signBit → 1 + plus x ≤ minus x
+pub unit-down : (x : Float) → T (fits binary64 x) → T (finite x) → place x < signBit → 1 + plus x ≤ minus x
 unit-down x f k h =
     let e = neg-place {x = x} (record { held = f; real = finite-real x k }) in
     let w = neg-plus x in

@@ -1,0 +1,9 @@
+pub mod Within
+pub mod Spans
+pub mod Size
+pub mod Length
+pub mod Normal
+pub mod Domain
+pub mod Checked
+pub mod Read
+pub mod Volume

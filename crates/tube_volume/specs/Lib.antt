@@ -1,0 +1,4 @@
+pub mod Sixfold
+pub mod Volume
+pub mod Bodies
+pub mod Worked
