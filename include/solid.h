@@ -107,7 +107,7 @@ static inline const char *solid_reason(uint64_t number)
         "mesh: edges cross or overlap",
         "mesh: no ear is left",
         "mesh: the last triangle does not turn the right way",
-        "mesh: a turn is not certain",
+        "a turn at a corner of a face is not certain",
         "mesh: the plane's handedness or a reciprocal is not certain",
     };
     return number < sizeof words / sizeof words[0] ? words[number] : "";

@@ -324,6 +324,31 @@ static void the_hollow()
     expect("a wall that touches", wall(2 * linear) == 29);
 }
 
+// The box 0..2 whose high z side is two faces that meet at (x, x): at 1 a square and an L, at 1/2 both go straight on there.
+static solid::Cell split_top(double x)
+{
+    auto out = cube(0, 2);
+    out.points.insert(out.points.end(), {{1, 0, 2}, {x, x, 2}, {0, 1, 2}});
+    out.faces = {{0, 4, 10, 6, 2}, {0, 1, 5, 8, 4}, {0, 2, 3, 1}, {1, 3, 7, 5}, {2, 6, 7, 3}, {5, 7, 6, 10, 9, 8}, {4, 8, 9, 10}};
+    return out;
+}
+
+// Every call refuses a dented face (4); one that goes straight on passes, and an offset then meets two faces in one plane (25).
+static void the_dents()
+{
+    solid::Room room(720);
+    Bytes answer(64 * 720);
+    auto numbers = [&](double x) {
+        const Bytes two = job(split_top(x), cube(5, 6), 3), one = cell(split_top(x));
+        auto number = [&](auto call) { return solid::number(told(room, answer, call)); };
+        return std::array{number([&] { return solid::fuse(two, room, answer); }), number([&] { return solid::cells(two, room, answer); }),
+                          number([&] { return solid::offset(one, 0.25, room, answer); }),
+                          number([&] { return solid::hollow(one, 0.25, room, answer); })};
+    };
+    expect("a dented face", numbers(1) == std::array{4u, 4u, 4u, 4u});
+    expect("a straight run", numbers(0.5) == std::array{0u, 0u, 25u, 25u});
+}
+
 static void the_mesh()
 {
     const solid::Facet square{{{0, 0, 0}, {1, 0, 0}, {0, 1, 0}, {0, 0, 1}}, {{0, 0, 0}, {1, 0, 0}, {1, 1, 0}, {0, 1, 0}}};
@@ -372,6 +397,7 @@ int main()
     places_and_threads();
     the_offset();
     the_hollow();
+    the_dents();
     the_mesh();
     the_reader();
     the_reasons();

@@ -7,12 +7,12 @@ use Rattle.refusal.specs.Outcome.{Outcome, ok, then}
 use Rattle.space.specs.declared.Precision.{Precision}
 use Rattle.space.specs.Shapes.{Cell, Solid}
 use Rattle.indexed.specs.Indexed.{indexed}
-use Rattle.solid_check.specs.Check.{check}
+use Rattle.solid_check.specs.Check.{checkBuilt}
 
 -- 01: "Cells of the cell Boolean, and the solid that an offset gives, pass `indexed` and this check, without the counts, and the
 -- indexed points and faces are the answer"
 unfoldable pub built : Precision → Cell → Outcome Solid
-built t c = then (indexed t c) (λ s. then (check false t s) (λ _. ok s))
+built t c = then (indexed t c) (λ s. then (checkBuilt t s) (λ _. ok s))
 
 -- the work memory of the check of n faces whose corners have c places in all
 pub record Bench (c n : ℕ) (ends head next seen work nodes cuts : List ℕ) : Type 0 where

@@ -74,7 +74,7 @@ module _ (t : Precision) (limit : ℕ) (out : Cell) (src : List Float) (sizes : 
     is-cell =
         let s = found t limit src sizes n p₀ i₀ fits p i f S m e in
         let b = built-indexed t cell (s .0) (s .1) .1 in
-        cell-framed t (s .0) (check-passed false t (s .0) (b .0) (b .1) .0) ∙ ap (λ x. ok (framed t (x .points) (x .faces))) (sym (built-solid t limit src sizes n p₀ i₀ fits p i f S m e))
+        cell-framed false t (s .0) (check-passed false t (s .0) (b .0) (b .1) .0) ∙ ap (λ x. ok (framed t (x .points) (x .faces))) (sym (built-solid t limit src sizes n p₀ i₀ fits p i f S m e))
 
     frames-counts : cellCounts (framed t (pointsAt p 0 m) (facesAt i 0 (countsAt sizes 0 n))) ≡ countsAt sizes 0 n
     frames-counts =

@@ -13,7 +13,7 @@ use Rattle.space.specs.Shapes.{Cell}
 use Rattle.job.specs.declared.Layout.{Layout}
 use Rattle.job.specs.declared.CellLayout.{CellLayout}
 use Rattle.job.specs.Read.{layoutOf, cellLayout, solidAt}
-use Rattle.solid_check.specs.Check.{check}
+use Rattle.solid_check.specs.Check.{checkGiven}
 use Rattle.intake.specs.Intake.{Stands}
 use Rattle.jobs.specs.declared.Pair.{Pair}
 
@@ -37,10 +37,10 @@ pub record Both : Type 0 where
   pub second : Cell
 
 abbrev pub withSecond : List ℕ → Layout → Cell → Outcome Both
-withSecond l y a = then (check true (y .precision) (solidAt l (y .second))) (λ b. ok (record { first = a; second = b }))
+withSecond l y a = then (checkGiven (y .precision) (solidAt l (y .second))) (λ b. ok (record { first = a; second = b }))
 
 unfoldable pub bothOf : List ℕ → Layout → Outcome Both
-bothOf l y = then (check true (y .precision) (solidAt l (y .first))) (withSecond l y)
+bothOf l y = then (checkGiven (y .precision) (solidAt l (y .first))) (withSecond l y)
 
 -- what is handed back
 unfoldable pub pairAs : ℕ → Verdict → ℕ → Pair

@@ -22,7 +22,7 @@ use Rattle.offset_answer.specs.Calls.{offsetAnswer, builtAnswer, offsetCall}
 use Rattle.hollow_answer.specs.Calls.{builtCell, wallCall, shellCall, hollowCall}
 use Rattle.solid_offset.specs.Entries.{offsetLaid, offsetEntry, hollowLaid, hollowEntry}
 use Rattle.solid_mesh.specs.Mesh.{faceOf, isSmall, meshBytes, meshFacet, meshCall}
-use Rattle.numbered.specs.Numbered.{Numbered, answer, number, numbered-more, numbered-then, numbered-unless}
+use Rattle.numbered.specs.Numbered.{Numbered, answer, number, among-byte, numbered-more, numbered-then, numbered-unless}
 use Rattle.numbered.specs.Reading.{facet-numbered}
 use Rattle.numbered.specs.Solids.{cell-of-numbered, check-numbered, built-numbered, finish-numbered, open-numbered, open-cell-numbered, both-solids-numbered}
 use Rattle.numbered.specs.Cuts.{cut-cells-numbered, pieces-numbered}
@@ -35,13 +35,13 @@ use Rattle.numbered.specs.Mesh.{triangles-of-numbered}
 pub told-number : {n : ℕ} {o : Outcome (List ℕ)} → Numbered n o → n ≤ 255 → toldOf o % 256 ≡ numberOf o
 unfolding toldOf numberOf
 told-number (answer l) h = omega arith
-told-number (number r w) h = omega arith
+told-number {n} (number r w) h = omega (arith, among-byte n r h w)
 
 -- a refusal has no bytes
 pub told-bytes : {n : ℕ} {o : Outcome (List ℕ)} → Numbered n o → n ≤ 255 → toldOf o / 256 ≡ endedOf o .bytes
 unfolding toldOf endedOf
 told-bytes (answer l) h = omega arith
-told-bytes (number r w) h = omega arith
+told-bytes {n} (number r w) h = omega (arith, among-byte n r h w)
 
 -- no refusal has the number 0
 pub told-answer : {A : Type 0} {n : ℕ} {o : Outcome A} → Numbered n o → numberOf o ≡ 0 → (a : A) × (o ≡ ok a)

@@ -1,19 +1,22 @@
 -- A refusal's number is one of 01's, and so it stays however outcomes and verdicts are put together.
+use mathlib.Core.Path.{_≡_, refl}
+use mathlib.Core.Logic.{_⊎_, inl, inr}
 use mathlib.Core.Bool.{Bool, true, false, cond}
 use mathlib.Core.List.{List, [], _∷_, _++_}
 use Prim.Native.Nat.{ℕ, _≤_}
 use native.Mathlib.Nat.{le-trans}
+use native.Mathlib.Omega.{arith}
 use lib.Dec.{T, leb, leb→le}
 use Rattle.refusal.specs.declared.Refusal.{Refusal}
 use Rattle.refusal.specs.declared.Verdict.{Verdict}
 use Rattle.refusal.specs.declared.Verdict.the-variants.{Fine, Refused}
 use Rattle.refusal.specs.Outcome.{Outcome, ok, refused, refuse, refusalOf, then, unless, walk, each, heard, verdictOf}
 
--- from 1 to n
+-- from 1 to n, or 33: the check of an input solid has it too
 abbrev pub Among : ℕ → Refusal → Type 0
-Among n r = (1 ≤ r .number) × (r .number ≤ n)
+Among n r = (1 ≤ r .number) × ((r .number ≤ n) ⊎ (r .number ≡ 33))
 
--- a refusal's number is one of 01's, from 1 to n
+-- a refusal's number is one of 01's, from 1 to n or 33
 pub data Numbered {A : Type 0} (n : ℕ) : Outcome A → Type 0 where
   answer : (a : A) → Numbered n (ok a)
   number : (r : Refusal) → Among n r → Numbered n (refused r)
@@ -27,11 +30,27 @@ pub data Judged (n : ℕ) : Verdict → Type 0 where
 
 -- both tests compute at numerals
 pub among : (k n : ℕ) → T (leb 1 k) → T (leb k n) → Among n (refusalOf k)
-among k n a b = (leb→le 1 k a, leb→le k n b)
+among k n a b = (leb→le 1 k a, inl (leb→le k n b))
+
+-- a turn that is not certain
+pub unsure : (n : ℕ) → Among n (refusalOf 33)
+unsure n = (leb→le 1 33 tt, inr refl)
 
 -- a weaker bound
 pub among-more : (n m : ℕ) (r : Refusal) → T (leb n m) → Among n r → Among m r
-among-more n m r h w = (w .0, le-trans (w .1) (leb→le n m h))
+among-more n m r h w = (w .0, go (w .1))
+  where
+    go : (r .number ≤ n) ⊎ (r .number ≡ 33) → (r .number ≤ m) ⊎ (r .number ≡ 33)
+    go (inl l) = inl (le-trans l (leb→le n m h))
+    go (inr e) = inr e
+
+-- it is below 256
+pub among-byte : (n : ℕ) (r : Refusal) → n ≤ 255 → Among n r → r .number ≤ 255
+among-byte n r h w = go (w .1)
+  where
+    go : (r .number ≤ n) ⊎ (r .number ≡ 33) → r .number ≤ 255
+    go (inl l) = le-trans l h
+    go (inr e) = omega (arith, e)
 
 -- ---- outcomes
 

@@ -1,7 +1,7 @@
--- The solid check, and solids built of cells: up to 7; what every call begins with: up to 12.
+-- The solid check, and solids built of cells: up to 7, and 33 of a given solid; what every call begins with: up to 12.
 use mathlib.Core.Bool.{Bool, true, false, not, _&&_}
 use mathlib.Core.List.{List, [], _∷_, map}
-use Prim.Native.Nat.{ℕ}
+use Prim.Native.Nat.{ℕ, zero, suc, _+_}
 use lib.ListN.{length}
 use lib.Dec.{ltb}
 use Rattle.refusal.specs.declared.Verdict.{Verdict}
@@ -20,8 +20,12 @@ use Rattle.side.specs.declared.Side.the-variants as D
 use Rattle.side.specs.Sides.{sideOf}
 use Rattle.job.specs.declared.Layout.{Layout}
 use Rattle.job.specs.Read.{solidAt}
+use Rattle.interval.specs.declared.Sign.{Sign}
+use Rattle.interval.specs.declared.Sign.the-variants as S
+use Rattle.turns.specs.Turns.{zeroWhere, turned, orientationOf}
 use Rattle.solids.specs.Apart.{firstOf, eachIn, notNear, apartFrom, apartAll}
 use Rattle.solids.specs.Sides.{has, judgeSide, pointSide, someBelow, faceSides}
+use Rattle.solids.specs.Dents.{notDented, turnsFrom, faceTurns, turnsIf}
 use Rattle.solids.specs.Frames.{planeFor, framedAll, sidesBy, sidesAll}
 use Rattle.solids.specs.Order.{fairAll, countedAll, shaped}
 use Rattle.topology.specs.Topology.{sound}
@@ -29,7 +33,7 @@ use Rattle.solid_check.specs.Check.{faceOf, cellOf, after, check}
 use Rattle.built.specs.Built.{built}
 use Rattle.finish.specs.Finish.{finish}
 use Rattle.jobs.specs.Jobs.{openWith, openJob, openCellWith, openCell, bothOf}
-use Rattle.numbered.specs.Numbered.{Numbered, answer, number, Judged, fine, ruled, numbered-at, numbered-more, numbered-then, numbered-unless, numbered-walk, numbered-each, judged-at, judged-of, judged-more}
+use Rattle.numbered.specs.Numbered.{Numbered, answer, number, unsure, Judged, fine, ruled, numbered-at, numbered-more, numbered-then, numbered-unless, numbered-walk, numbered-each, judged-at, judged-of, judged-more}
 use Rattle.numbered.specs.Reading.{layout-numbered, cell-numbered}
 use Rattle.numbered.specs.Points.{face-plane-numbered, Sided, side-numbered, Close, near-numbered, indexed-numbered}
 
@@ -81,16 +85,40 @@ plane-for-numbered : (t : Precision) (ps : List Point3) (f : List ℕ) → Numbe
 unfolding planeFor
 plane-for-numbered t ps f = numbered-unless (ltb (length f) 3) 5 tt tt (face-plane-numbered t _ _ _)
 
-by-judged : (t : Precision) {o : Outcome Plane} (f : List ℕ) (ps : List Point3) → Numbered 7 o → Judged 7 (sidesBy t o f ps)
-unfolding sidesBy
-by-judged t f ps (answer w) = sides-judged t w f ps
-by-judged t f ps (number r w) = ruled r w
+-- ---- the turns of a given face
 
-shaped-judged : (t : Precision) (ps : List Point3) (fs : List (List ℕ)) → Judged 7 (shaped t ps fs)
+zero-judged : (z : Bool) → Judged 7 (notDented (zeroWhere z))
+unfolding notDented
+zero-judged true = fine
+zero-judged false = ruled _ (unsure 7)
+
+turn-judged : (s : Sign) (z : Bool) → Judged 7 (notDented (turned s z))
+unfolding turned notDented
+turn-judged S.Positive z = fine
+turn-judged S.Negative z = judged-at 4 tt tt
+turn-judged S.Zero z = fine
+turn-judged S.Unknown z = zero-judged z
+
+turns-judged : (t : Precision) (w : Plane) (f : List ℕ) (ps : List Point3) (k i : ℕ) → Judged 7 (turnsFrom t w f ps k i)
+unfolding turnsFrom orientationOf
+turns-judged t w f ps zero i = fine
+turns-judged t w f ps (suc k) i = judged-first (turn-judged _ _) (turns-judged t w f ps k (i + 1))
+
+given-judged : (given : Bool) (t : Precision) (w : Plane) (f : List ℕ) (ps : List Point3) → Judged 7 (turnsIf given t w f ps)
+unfolding turnsIf faceTurns
+given-judged true t w f ps = turns-judged t w f ps (length f) 0
+given-judged false t w f ps = fine
+
+by-judged : (given : Bool) (t : Precision) {o : Outcome Plane} (f : List ℕ) (ps : List Point3) → Numbered 7 o → Judged 7 (sidesBy given t o f ps)
+unfolding sidesBy
+by-judged given t f ps (answer w) = judged-first (sides-judged t w f ps) (given-judged given t w f ps)
+by-judged given t f ps (number r w) = ruled r w
+
+shaped-judged : (given : Bool) (t : Precision) (ps : List Point3) (fs : List (List ℕ)) → Judged 7 (shaped given t ps fs)
 unfolding shaped framedAll sidesAll
-shaped-judged t ps fs =
+shaped-judged given t ps fs =
     judged-first (judged-each _ (λ f. judged-of (numbered-more tt (plane-for-numbered t ps f))) fs)
-    (judged-first (apart-judged t ps) (judged-each _ (λ f. by-judged t f ps (numbered-more tt (plane-for-numbered t ps f))) fs))
+    (judged-first (apart-judged t ps) (judged-each _ (λ f. by-judged given t f ps (numbered-more tt (plane-for-numbered t ps f))) fs))
 
 -- ---- the check
 
@@ -103,13 +131,13 @@ unfolding after
 after-numbered fine w = w
 after-numbered (ruled r x) w = number r x
 
-pub check-numbered : (counted : Bool) (t : Precision) (s : Solid) → Numbered 7 (check counted t s)
+pub check-numbered : (given : Bool) (t : Precision) (s : Solid) → Numbered 7 (check given t s)
 unfolding check
-check-numbered counted t s =
+check-numbered given t s =
     numbered-unless (not (fairAll (s .points))) 2 tt tt
-    (numbered-unless (counted && not (countedAll (length (s .points)) (length (s .faces)) (map length (s .faces)))) 3 tt tt
+    (numbered-unless (given && not (countedAll (length (s .points)) (length (s .faces)) (map length (s .faces)))) 3 tt tt
     (numbered-unless (not (sound (length (s .points)) (s .faces))) 4 tt tt
-    (after-numbered (shaped-judged t (s .points) (s .faces)) (numbered-more tt (cell-of-numbered t s)))))
+    (after-numbered (shaped-judged given t (s .points) (s .faces)) (numbered-more tt (cell-of-numbered t s)))))
 
 pub built-numbered : (t : Precision) (c : Cell) → Numbered 7 (built t c)
 unfolding built

@@ -1,6 +1,6 @@
 -- The check of a solid, and the checked solid as faces with planes. Definitions only.
 use Prim.Native.Nat.{ℕ}
-use mathlib.Core.Bool.{Bool, not, _&&_}
+use mathlib.Core.Bool.{Bool, true, false, not, _&&_}
 use mathlib.Core.List.{List, [], _∷_, map}
 use lib.ListN.{length}
 use lib.Seq.{sets}
@@ -33,14 +33,21 @@ unfoldable pub after : {A : Type 0} → Verdict → Outcome A → Outcome A
 after Fine o = o
 after (Refused r) o = refused r
 
--- "Checked in this order: numbers (2); counts (3); … (4); frames (5); pairs of points (4, 6); for each face, each point (7, 4)";
--- the counts only of what is given
+-- "Checked in this order: numbers (2); counts (3); … (4); frames (5); pairs of points (4, 6); for each face, each point (7, 4)", then the face's
+-- turns (33, 4; request 2/13); counts and turns only of what is given
 unfoldable pub check : Bool → Precision → Solid → Outcome Cell
-check counted t s =
+check given t s =
     unless (not (fairAll (s .points))) 2
-    (unless (counted && not (countedAll (length (s .points)) (length (s .faces)) (map length (s .faces)))) 3
+    (unless (given && not (countedAll (length (s .points)) (length (s .faces)) (map length (s .faces)))) 3
     (unless (not (sound (length (s .points)) (s .faces))) 4
-    (after (shaped t (s .points) (s .faces)) (cellOf t s))))
+    (after (shaped given t (s .points) (s .faces)) (cellOf t s))))
+
+-- "An input solid"; and "cells of the cell Boolean, and the solid that an offset gives"
+abbrev pub checkGiven : Precision → Solid → Outcome Cell
+checkGiven t s = check true t s
+
+abbrev pub checkBuilt : Precision → Solid → Outcome Cell
+checkBuilt t s = check false t s
 
 -- a slice, once a cell is stored at its front; a refusal leaves it as it is
 unfoldable pub stored : Outcome Cell → List Float → List Float

@@ -15,9 +15,9 @@ ghost use Rattle.room.specs.Rooms.{countsAt, faceFloats, cellFloats};
 ghost use Rattle.solids.specs.Frames.{pointOf, facesAt, Placing};
 ghost use Rattle.solid_check.specs.Check.{solidAt, check, stored, framed};
 
-// The solid of m points and n faces is checked in 01's order; with the counts where it is given. The other slices are work memory.
+// The solid of m points and n faces is checked in 01's order, with counts and turns where it is given. The other slices are work memory.
 pub fn check(
-    counted: bool,
+    given: bool,
     t: Precision,
     points: &[f64],
     m: usize,
@@ -35,12 +35,12 @@ pub fn check(
     requires { ⌜ (3 * m ≤ length (now points)) × (n ≤ length (now counts)) × Placing (countsAt (now counts) 0 n) 0 (length (now places)) ⌝ }
     requires { ⌜ (2 * length (now places) ≤ length (now ends)) × (2 * length (now places) ≤ length (now next)) × (length (now places) ≤ length (now nodes)) ⌝ }
     requires { ⌜ (n ≤ length (now head)) × (n ≤ length (now seen)) × (n ≤ length (now work)) × (n ≤ length (now nodes)) × (n < length (now cuts)) ⌝ }
-    ensures { λ r. ⌜ r ≡ verdictOf (check counted t (solidAt (now (points .entry)) m (now (places .entry)) (now (counts .entry)) n)) ⌝ }
+    ensures { λ r. ⌜ r ≡ verdictOf (check given t (solidAt (now (points .entry)) m (now (places .entry)) (now (counts .entry)) n)) ⌝ }
 {
     if !solids::all_fair(points, m) {
         return Verdict::Refused(refusal::refuse(2));
     }
-    if counted & !solids::is_counted(m, counts, n) {
+    if given & !solids::is_counted(m, counts, n) {
         return Verdict::Refused(refusal::refuse(3));
     }
     if !topology::is_sound(
@@ -58,7 +58,7 @@ pub fn check(
     ) {
         return Verdict::Refused(refusal::refuse(4));
     }
-    solids::shape(t, points, m, places, counts, n)
+    solids::shape(given, t, points, m, places, counts, n)
 }
 
 // The points of a face's n corners, whose places stand from a place on, go to s from o on.
@@ -134,7 +134,7 @@ pub fn put_faces(
 
 // The check; a solid that passes it stands in s afterwards, as faces with their planes. Its numbers of corners are `counts`.
 pub fn checked_cell(
-    counted: bool,
+    given: bool,
     t: Precision,
     points: &[f64],
     m: usize,
@@ -154,11 +154,11 @@ pub fn checked_cell(
     requires { ⌜ (2 * length (now places) ≤ length (now ends)) × (2 * length (now places) ≤ length (now next)) × (length (now places) ≤ length (now nodes)) ⌝ }
     requires { ⌜ (n ≤ length (now head)) × (n ≤ length (now seen)) × (n ≤ length (now work)) × (n ≤ length (now nodes)) × (n < length (now cuts)) ⌝ }
     requires { ⌜ 12 * n + 3 * length (now places) ≤ length (now s) ⌝ }
-    ensures { λ r. ⌜ r ≡ verdictOf (check counted t (solidAt (now (points .entry)) m (now (places .entry)) (now (counts .entry)) n)) ⌝ }
-    ensures { λ _. ⌜ now (s .exit) ≡ stored (check counted t (solidAt (now (points .entry)) m (now (places .entry)) (now (counts .entry)) n)) (now (s .entry)) ⌝ }
+    ensures { λ r. ⌜ r ≡ verdictOf (check given t (solidAt (now (points .entry)) m (now (places .entry)) (now (counts .entry)) n)) ⌝ }
+    ensures { λ _. ⌜ now (s .exit) ≡ stored (check given t (solidAt (now (points .entry)) m (now (places .entry)) (now (counts .entry)) n)) (now (s .entry)) ⌝ }
 {
     let v = check(
-        counted,
+        given,
         t,
         points,
         m,

@@ -10,7 +10,7 @@ use Rattle.solid_check.specs.Check.{check}
 
 -- the bytes are read, and the solid that they mean is checked
 unfoldable pub checkBytes : Bool → List ℕ → Outcome Cell
-checkBytes counted l = then (readCell l) (λ j. check counted (j .precision) (j .solid))
+checkBytes given l = then (readCell l) (λ j. check given (j .precision) (j .solid))
 
 -- work memory of these lengths suffices for any cell of 32,768 bytes
 abbrev pub roomy : ℕ → ℕ → ℕ → ℕ → ℕ → ℕ → ℕ → ℕ → ℕ → ℕ → Bool
@@ -20,4 +20,4 @@ roomy points counts places ends head next seen work nodes cuts =
 
 -- 12 where the work memory is too small
 unfoldable pub cellNumber : Bool → Bool → List ℕ → ℕ
-cellNumber room counted l = cond room (numberOf (checkBytes counted l)) 12
+cellNumber room given l = cond room (numberOf (checkBytes given l)) 12

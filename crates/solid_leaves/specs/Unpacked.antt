@@ -37,13 +37,13 @@ unfolding numberBy verdictOf numberOf
 number-of (ok c) = refl
 number-of (refused r) = refl
 
-pub read-not : (counted : Bool) (l : List ℕ) (r : Refusal) → cellLayout l ≡ refused r → r .number ≡ numberOf (checkBytes counted l)
+pub read-not : (given : Bool) (l : List ℕ) (r : Refusal) → cellLayout l ≡ refused r → r .number ≡ numberOf (checkBytes given l)
 unfolding checkBytes readCell numberOf
-read-not counted l r e = sym (ap numberOf (stop (readCell l) (λ j. check counted (j .precision) (j .solid)) r (stop (cellLayout l) (λ y. ok (cellAt l y)) r e)))
+read-not given l r e = sym (ap numberOf (stop (readCell l) (λ j. check given (j .precision) (j .solid)) r (stop (cellLayout l) (λ y. ok (cellAt l y)) r e)))
 
-pub read-made : (counted : Bool) (l : List ℕ) (y : CellLayout) → cellLayout l ≡ ok y → check counted (y .precision) (solidAt l (y .solid)) ≡ checkBytes counted l
+pub read-made : (given : Bool) (l : List ℕ) (y : CellLayout) → cellLayout l ≡ ok y → check given (y .precision) (solidAt l (y .solid)) ≡ checkBytes given l
 unfolding checkBytes readCell cellAt
-read-made counted l y e = sym (go (readCell l) (λ j. check counted (j .precision) (j .solid)) (cellAt l y) (go (cellLayout l) (λ z. ok (cellAt l z)) y e))
+read-made given l y e = sym (go (readCell l) (λ j. check given (j .precision) (j .solid)) (cellAt l y) (go (cellLayout l) (λ z. ok (cellAt l z)) y e))
 
 -- ---- the work memory
 
@@ -113,26 +113,26 @@ module _ (l : List ℕ) (y : CellLayout) (e : cellLayout l ≡ ok y) (s s′ : L
   pub laid-placing : Placing (countsAt cs′ 0 (y .solid .faces)) 0 (length ps′)
   laid-placing = rw (cE, pE) (placing-mean l 17 (y .solid) (laid-placed l y e .0) s cs ps sR cR pR)
 
-  pub laid-number : (counted : Bool) (v : Verdict) (r : ℕ) → r ≡ numberBy v → v ≡ verdictOf (check counted (y .precision) (K.solidAt s′ (y .solid .points) ps′ cs′ (y .solid .faces))) →
-      r ≡ numberOf (check counted (y .precision) (solidAt l (y .solid)))
-  laid-number counted v r h g =
+  pub laid-number : (given : Bool) (v : Verdict) (r : ℕ) → r ≡ numberBy v → v ≡ verdictOf (check given (y .precision) (K.solidAt s′ (y .solid .points) ps′ cs′ (y .solid .faces))) →
+      r ≡ numberOf (check given (y .precision) (solidAt l (y .solid)))
+  laid-number given v r h g =
       let q : K.solidAt s′ (y .solid .points) ps′ cs′ (y .solid .faces) ≡ solidAt l (y .solid) = rw (sE, cE, pE) (solid-mean l 17 (y .solid) (laid-placed l y e .0) s cs ps sR cR pR) in
-      h ∙ ap numberBy g ∙ number-of (check counted (y .precision) (K.solidAt s′ (y .solid .points) ps′ cs′ (y .solid .faces))) ∙ ap (λ z. numberOf (check counted (y .precision) z)) q
+      h ∙ ap numberBy g ∙ number-of (check given (y .precision) (K.solidAt s′ (y .solid .points) ps′ cs′ (y .solid .faces))) ∙ ap (λ z. numberOf (check given (y .precision) z)) q
 
 -- ---- the whole
 
-pub cell-small : (room counted : Bool) (l : List ℕ) → room ≡ false → 12 ≡ cellNumber room counted l
+pub cell-small : (room given : Bool) (l : List ℕ) → room ≡ false → 12 ≡ cellNumber room given l
 unfolding cellNumber
-cell-small room counted l e = sym (ap (λ b. cond b (numberOf (checkBytes counted l)) 12) e)
+cell-small room given l e = sym (ap (λ b. cond b (numberOf (checkBytes given l)) 12) e)
 
-pub cell-refused : (room counted : Bool) (l : List ℕ) (c : CellLaid) (r : Refusal) → room ≡ true → cellLaid c ≡ cellLayout l → c ≡ C.Refused r → r .number ≡ cellNumber room counted l
+pub cell-refused : (room given : Bool) (l : List ℕ) (c : CellLaid) (r : Refusal) → room ≡ true → cellLaid c ≡ cellLayout l → c ≡ C.Refused r → r .number ≡ cellNumber room given l
 unfolding cellNumber cellLaid
-cell-refused room counted l c r e h g = read-not counted l r (sym h ∙ ap cellLaid g) ∙ sym (ap (λ b. cond b (numberOf (checkBytes counted l)) 12) e)
+cell-refused room given l c r e h g = read-not given l r (sym h ∙ ap cellLaid g) ∙ sym (ap (λ b. cond b (numberOf (checkBytes given l)) 12) e)
 
 pub cell-layout : (l : List ℕ) (c : CellLaid) (y : CellLayout) → cellLaid c ≡ cellLayout l → c ≡ C.Made y → cellLayout l ≡ ok y
 unfolding cellLaid
 cell-layout l c y h g = sym h ∙ ap cellLaid g
 
-pub cell-checked : (room counted : Bool) (l : List ℕ) (y : CellLayout) (r : ℕ) → room ≡ true → cellLayout l ≡ ok y → r ≡ numberOf (check counted (y .precision) (solidAt l (y .solid))) → r ≡ cellNumber room counted l
+pub cell-checked : (room given : Bool) (l : List ℕ) (y : CellLayout) (r : ℕ) → room ≡ true → cellLayout l ≡ ok y → r ≡ numberOf (check given (y .precision) (solidAt l (y .solid))) → r ≡ cellNumber room given l
 unfolding cellNumber
-cell-checked room counted l y r e h g = g ∙ ap numberOf (read-made counted l y h) ∙ sym (ap (λ b. cond b (numberOf (checkBytes counted l)) 12) e)
+cell-checked room given l y r e h g = g ∙ ap numberOf (read-made given l y h) ∙ sym (ap (λ b. cond b (numberOf (checkBytes given l)) 12) e)

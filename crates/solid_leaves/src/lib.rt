@@ -37,7 +37,7 @@ fn is_roomy(
 fn check_laid(
     job: &[u8],
     y: CellLayout,
-    counted: bool,
+    given: bool,
     points: &mut [f64],
     counts: &mut [u64],
     places: &mut [u64],
@@ -50,7 +50,7 @@ fn check_laid(
     cuts: &mut [u64],
 ) -> u64
     requires { ⌜ (cellLayout (now job) ≡ ok y) × Roomy (length (now points)) (length (now counts)) (length (now places)) (length (now ends)) (length (now head)) (length (now next)) (length (now seen)) (length (now work)) (length (now nodes)) (length (now cuts)) ⌝ }
-    ensures { λ r. ⌜ r ≡ numberOf (check counted (y .precision) (solidAt (now (job .entry)) (y .solid))) ⌝ }
+    ensures { λ r. ⌜ r ≡ numberOf (check given (y .precision) (solidAt (now (job .entry)) (y .solid))) ⌝ }
 {
     let t = y.precision;
     let a = y.solid;
@@ -59,7 +59,7 @@ fn check_laid(
     pack::unpack_points(job, a.start, m, points);
     pack::unpack_faces(job, a.middle, counts, places);
     let v = solid_check::check(
-        counted,
+        given,
         t,
         points,
         m,
@@ -77,11 +77,11 @@ fn check_laid(
     lent::number_by(v)
 }
 
-// 01's number for a cell's bytes, with the counts where `counted` is 1; the other slices are work memory, 12 where one is too short.
+// 01's number for a cell's bytes, with counts and turns where `given` is 1; the other slices are work memory, 12 where one is too short.
 #[no_mangle]
 pub extern "C" fn leaf_check_cell(
     job: &[u8],
-    counted: u64,
+    given: u64,
     points: &mut [f64],
     counts: &mut [u64],
     places: &mut [u64],
@@ -93,7 +93,7 @@ pub extern "C" fn leaf_check_cell(
     nodes: &mut [u64],
     cuts: &mut [u64],
 ) -> u64
-    ensures { λ r. ⌜ r ≡ cellNumber (roomy (length (now (points .entry))) (length (now (counts .entry))) (length (now (places .entry))) (length (now (ends .entry))) (length (now (head .entry))) (length (now (next .entry))) (length (now (seen .entry))) (length (now (work .entry))) (length (now (nodes .entry))) (length (now (cuts .entry)))) (eqb counted 1) (now (job .entry)) ⌝ }
+    ensures { λ r. ⌜ r ≡ cellNumber (roomy (length (now (points .entry))) (length (now (counts .entry))) (length (now (places .entry))) (length (now (ends .entry))) (length (now (head .entry))) (length (now (next .entry))) (length (now (seen .entry))) (length (now (work .entry))) (length (now (nodes .entry))) (length (now (cuts .entry)))) (eqb given 1) (now (job .entry)) ⌝ }
 {
     if !is_roomy(
         points.len(),
@@ -114,7 +114,7 @@ pub extern "C" fn leaf_check_cell(
         CellLaid::Made(y) => check_laid(
             job,
             y,
-            counted == 1,
+            given == 1,
             points,
             counts,
             places,

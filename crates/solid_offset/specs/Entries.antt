@@ -13,7 +13,7 @@ use Rattle.job.specs.declared.CellLayout.{CellLayout}
 use Rattle.job.specs.Read.{solidAt}
 use Rattle.bounds.specs.Bounds.{Lies}
 use Rattle.hollow.specs.Hollows.{thick}
-use Rattle.solid_check.specs.Check.{check}
+use Rattle.solid_check.specs.Check.{checkGiven}
 use Rattle.jobs.specs.Jobs.{openCell}
 use Rattle.offset_answer.specs.Calls.{offsetCall}
 use Rattle.hollow_answer.specs.Calls.{hollowCall}
@@ -24,7 +24,7 @@ lent room answer s counts dst sizes = leb room (answer / 64) && ((leb 3840 s && 
 
 -- "the solid", then the rest: "a non-finite offset is 2, after the solid"
 unfoldable pub offsetLaid : List ℕ → ℕ → Float → CellLayout → Outcome (List ℕ)
-offsetLaid l room d y = then (check true (y .precision) (solidAt l (y .solid))) (offsetCall (y .precision) room d)
+offsetLaid l room d y = then (checkGiven (y .precision) (solidAt l (y .solid))) (offsetCall (y .precision) room d)
 
 -- "Order: 1, 12 for an answer room below the work room, 2 for the tolerances, 28 (for a hollow), the first solid, … then 000's own order"
 unfoldable pub offsetEntry : Bool → ℕ → Float → List ℕ → Outcome (List ℕ)
@@ -32,7 +32,7 @@ offsetEntry lends room d l = then (openCell lends l) (offsetLaid l room d)
 
 -- 28 before the solid; "a non-finite thickness is 28"
 unfoldable pub hollowLaid : List ℕ → ℕ → Float → CellLayout → Outcome (List ℕ)
-hollowLaid l room w y = unless (not (thick (y .precision) w)) 28 (then (check true (y .precision) (solidAt l (y .solid))) (hollowCall (y .precision) room w))
+hollowLaid l room w y = unless (not (thick (y .precision) w)) 28 (then (checkGiven (y .precision) (solidAt l (y .solid))) (hollowCall (y .precision) room w))
 
 unfoldable pub hollowEntry : Bool → ℕ → Float → List ℕ → Outcome (List ℕ)
 hollowEntry lends room w l = then (openCell lends l) (hollowLaid l room w)

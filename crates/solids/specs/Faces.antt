@@ -22,10 +22,10 @@ use Rattle.polygon.specs.MemoryLaws.{length-pointsAt}
 use Rattle.room.specs.Rooms.{countsAt}
 use Rattle.room.specs.Laws.{next-point, points-done, next-count, counts-done, point-of}
 use Rattle.lists.specs.Walks.{all}
-use Rattle.solids.specs.Apart.{firstOf, eachIn, apartAll}
+use Rattle.solids.specs.Apart.{eachIn, apartAll}
 use Rattle.solids.specs.Frames.{pointOf, planeFor, facesAt, framedAll, Placing, sidesAll}
 use Rattle.solids.specs.Order.{shaped}
-use Rattle.solids.specs.Laws.{each-go, each-stop}
+use Rattle.solids.specs.Laws.{first-go, first-stop, each-go, each-stop}
 
 -- ---- the point at a place
 
@@ -158,14 +158,14 @@ counts-end g b l n j h = ap (all g b) (counts-done l 0 n j h)
 
 -- ---- the order of the checks
 
-pub shape-frames : (t : Precision) (ps : List Point3) (fs : List (List ℕ)) (r : Refusal) → framedAll t ps fs ≡ D.Refused r → shaped t ps fs ≡ D.Refused r
-unfolding shaped firstOf
-shape-frames t ps fs r e = ap (λ v. firstOf v (firstOf (apartAll t ps) (sidesAll t ps fs))) e
+pub shape-frames : (given : Bool) (t : Precision) (ps : List Point3) (fs : List (List ℕ)) (r : Refusal) → framedAll t ps fs ≡ D.Refused r → shaped given t ps fs ≡ D.Refused r
+unfolding shaped
+shape-frames given t ps fs r e = first-stop (framedAll t ps fs) _ r e
 
-pub shape-pairs : (t : Precision) (ps : List Point3) (fs : List (List ℕ)) (r : Refusal) → framedAll t ps fs ≡ D.Fine → apartAll t ps ≡ D.Refused r → shaped t ps fs ≡ D.Refused r
-unfolding shaped firstOf
-shape-pairs t ps fs r e g = ap (λ v. firstOf v (firstOf (apartAll t ps) (sidesAll t ps fs))) e ∙ ap (λ v. firstOf v (sidesAll t ps fs)) g
+pub shape-pairs : (given : Bool) (t : Precision) (ps : List Point3) (fs : List (List ℕ)) (r : Refusal) → framedAll t ps fs ≡ D.Fine → apartAll t ps ≡ D.Refused r → shaped given t ps fs ≡ D.Refused r
+unfolding shaped
+shape-pairs given t ps fs r e g = first-go (framedAll t ps fs) _ e ∙ first-stop (apartAll t ps) _ r g
 
-pub shape-sides : (t : Precision) (ps : List Point3) (fs : List (List ℕ)) → framedAll t ps fs ≡ D.Fine → apartAll t ps ≡ D.Fine → shaped t ps fs ≡ sidesAll t ps fs
-unfolding shaped firstOf
-shape-sides t ps fs e g = ap (λ v. firstOf v (firstOf (apartAll t ps) (sidesAll t ps fs))) e ∙ ap (λ v. firstOf v (sidesAll t ps fs)) g
+pub shape-sides : (given : Bool) (t : Precision) (ps : List Point3) (fs : List (List ℕ)) → framedAll t ps fs ≡ D.Fine → apartAll t ps ≡ D.Fine → shaped given t ps fs ≡ sidesAll given t ps fs
+unfolding shaped
+shape-sides given t ps fs e g = first-go (framedAll t ps fs) _ e ∙ first-go (apartAll t ps) _ g

@@ -13,8 +13,9 @@ use Rattle.space.specs.declared.Precision.{Precision}
 use Rattle.space.specs.Vector.{origin}
 use Rattle.space.specs.Frames.{facePlane}
 use Rattle.room.specs.Rooms.{countsAt}
-use Rattle.solids.specs.Apart.{eachIn}
+use Rattle.solids.specs.Apart.{firstOf, eachIn}
 use Rattle.solids.specs.Sides.{faceSides}
+use Rattle.solids.specs.Dents.{turnsIf}
 
 -- the point at a place; the places of a checked solid are in range
 abbrev pub pointOf : List Point3 → ℕ → Point3
@@ -37,10 +38,10 @@ unfoldable pub Placing : List ℕ → ℕ → ℕ → Type 0
 Placing [] at m = at ≤ m
 Placing (n ∷ ns) at m = Placing ns (at + n) m
 
--- one face, where it has a plane
-unfoldable pub sidesBy : Precision → Outcome Plane → List ℕ → List Point3 → Verdict
-sidesBy t (ok w) f ps = faceSides t w f ps
-sidesBy t (refused r) f ps = D.Refused r
+-- one face, where it has a plane: its sides, then, where it is given, its turns
+unfoldable pub sidesBy : Bool → Precision → Outcome Plane → List ℕ → List Point3 → Verdict
+sidesBy given t (ok w) f ps = firstOf (faceSides t w f ps) (turnsIf given t w f ps)
+sidesBy given t (refused r) f ps = D.Refused r
 
-unfoldable pub sidesAll : Precision → List Point3 → List (List ℕ) → Verdict
-sidesAll t ps fs = eachIn (λ f. sidesBy t (planeFor t ps f) f ps) fs
+unfoldable pub sidesAll : Bool → Precision → List Point3 → List (List ℕ) → Verdict
+sidesAll given t ps fs = eachIn (λ f. sidesBy given t (planeFor t ps f) f ps) fs

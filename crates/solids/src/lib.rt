@@ -3,10 +3,13 @@ use refusal::Refusal;
 use refusal::Verdict;
 use side::Side;
 use space::Closeness;
+use space::Frame;
 use space::Plane;
 use space::Planed;
 use space::Point3;
 use space::Precision;
+use turns::Projected;
+use turns::Turn;
 ghost use mathlib.Core.Path.{_≡_};
 ghost use mathlib.Core.Bool.{true, false};
 ghost use Prim.Native.Nat.{_+_, _*_, _≤_, _<_};
@@ -21,6 +24,8 @@ ghost use Rattle.solids.specs.Frames.{pointOf, planeFor, facesAt, framed
 ghost use Rattle.lists.specs.Walks.{all};
 ghost use Rattle.solids.specs.Order.{fairAll, within, countedAll, shaped};
 ghost use Rattle.solids.specs.Answers.{below};
+ghost use Rattle.solids.specs.Apart.{firstOf};
+ghost use Rattle.solids.specs.Dents.{flatOf, notDented, flatAt, faceTurns, turnsIf};
 
 fn not_near(c: Closeness) -> Verdict
     ensures { λ r. ⌜ r ≡ notNear c ⌝ }
@@ -227,8 +232,125 @@ pub fn all_framed(
     Verdict::Fine
 }
 
-// The sides of all points against the plane of one face, once it has one.
+// A point in the coordinates of a face: rounded there, and then taken as they are.
+fn flat(f: Frame, q: Point3) -> Projected
+    ensures { λ r. ⌜ r ≡ flatOf f q ⌝ }
+{
+    let l = space::to_local(f, q);
+    Projected {
+        x: interval::point(l.x),
+        y: interval::point(l.y),
+    }
+}
+
+// A face may turn left at a corner or go straight on.
+fn not_dented(s: Turn) -> Verdict
+    ensures { λ r. ⌜ r ≡ notDented s ⌝ }
+{
+    match s {
+        Turn::Positive => Verdict::Fine,
+        Turn::Negative => Verdict::Refused(refusal::refuse(4)),
+        Turn::Zero => Verdict::Fine,
+        Turn::Refused(r) => Verdict::Refused(r),
+    }
+}
+
+// The i-th corner of a face of n, counted round it, in the coordinates of the face's plane.
+fn flat_at(
+    w: Plane,
+    places: &[u64],
+    at: usize,
+    n: usize,
+    points: &[f64],
+    m: usize,
+    i: usize,
+) -> Projected
+    requires { ⌜ (at + n ≤ length (now places)) × (3 * m ≤ length (now points)) × (0 < n) ⌝ }
+    ensures { λ r. ⌜ r ≡ flatAt w (countsAt (now (places .entry)) at n) (pointsAt (now (points .entry)) 0 m) i ⌝ }
+{
+    let q = point_of(points, m, places[at + i % n] as usize);
+    flat(w.frame, q)
+}
+
+// Each three consecutive corners of a face of n, round it. The last two of three are the first two of the next.
+fn face_turns(
+    t: Precision,
+    w: Plane,
+    places: &[u64],
+    at: usize,
+    n: usize,
+    points: &[f64],
+    m: usize,
+) -> Verdict
+    requires { ⌜ (at + n ≤ length (now places)) × (3 * m ≤ length (now points)) ⌝ }
+    ensures { λ r. ⌜ r ≡ faceTurns t w (countsAt (now (places .entry)) at n) (pointsAt (now (points .entry)) 0 m) ⌝ }
+{
+    if n == 0 {
+        return Verdict::Fine;
+    }
+    let mut a = flat_at(w, places, at, n, points, m, 0);
+    let mut b = flat_at(w, places, at, n, points, m, 1);
+    let mut k = 0;
+    while k < n {
+        let c = flat_at(w, places, at, n, points, m, k + 2);
+        let v = not_dented(turns::orientation(t, a, b, c));
+        match v {
+            Verdict::Fine => {}
+            Verdict::Refused(r) => {
+                return Verdict::Refused(r);
+            }
+        }
+        a = b;
+        b = c;
+        k += 1;
+    }
+    Verdict::Fine
+}
+
+// The turns of a face that is given; one that was cut or moved is not tested again.
+fn turns_if(
+    given: bool,
+    t: Precision,
+    w: Plane,
+    places: &[u64],
+    at: usize,
+    n: usize,
+    points: &[f64],
+    m: usize,
+) -> Verdict
+    requires { ⌜ (at + n ≤ length (now places)) × (3 * m ≤ length (now points)) ⌝ }
+    ensures { λ r. ⌜ r ≡ turnsIf given t w (countsAt (now (places .entry)) at n) (pointsAt (now (points .entry)) 0 m) ⌝ }
+{
+    if given {
+        return face_turns(t, w, places, at, n, points, m);
+    }
+    Verdict::Fine
+}
+
+// The sides of all points against a face, then, where it is given, its turns.
+fn face_checked(
+    given: bool,
+    t: Precision,
+    w: Plane,
+    places: &[u64],
+    at: usize,
+    n: usize,
+    points: &[f64],
+    m: usize,
+) -> Verdict
+    requires { ⌜ (at + n ≤ length (now places)) × (3 * m ≤ length (now points)) ⌝ }
+    ensures { λ r. ⌜ r ≡ firstOf (faceSides t w (countsAt (now (places .entry)) at n) (pointsAt (now (points .entry)) 0 m)) (turnsIf given t w (countsAt (now (places .entry)) at n) (pointsAt (now (points .entry)) 0 m)) ⌝ }
+{
+    let v = face_sides(t, w, places, at, n, points, m);
+    let Verdict::Fine = v else {
+        return v;
+    };
+    turns_if(given, t, w, places, at, n, points, m)
+}
+
+// The sides and turns of one face, once it has a plane.
 fn sides_by(
+    given: bool,
     t: Precision,
     made: Planed,
     places: &[u64],
@@ -238,16 +360,17 @@ fn sides_by(
     m: usize,
 ) -> Verdict
     requires { ⌜ (at + n ≤ length (now places)) × (3 * m ≤ length (now points)) ⌝ }
-    ensures { λ r. ⌜ r ≡ sidesBy t (planed made) (countsAt (now (places .entry)) at n) (pointsAt (now (points .entry)) 0 m) ⌝ }
+    ensures { λ r. ⌜ r ≡ sidesBy given t (planed made) (countsAt (now (places .entry)) at n) (pointsAt (now (points .entry)) 0 m) ⌝ }
 {
     match made {
-        Planed::Made(w) => face_sides(t, w, places, at, n, points, m),
+        Planed::Made(w) => face_checked(given, t, w, places, at, n, points, m),
         Planed::Refused(r) => Verdict::Refused(r),
     }
 }
 
-// The points against each of n faces.
+// The points against each of n faces, and the turns of each that is given.
 pub fn all_sides(
+    given: bool,
     t: Precision,
     points: &[f64],
     m: usize,
@@ -256,13 +379,14 @@ pub fn all_sides(
     n: usize,
 ) -> Verdict
     requires { ⌜ (3 * m ≤ length (now points)) × (n ≤ length (now counts)) × Placing (countsAt (now counts) 0 n) 0 (length (now places)) ⌝ }
-    ensures { λ r. ⌜ r ≡ sidesAll t (pointsAt (now (points .entry)) 0 m) (facesAt (now (places .entry)) 0 (countsAt (now (counts .entry)) 0 n)) ⌝ }
+    ensures { λ r. ⌜ r ≡ sidesAll given t (pointsAt (now (points .entry)) 0 m) (facesAt (now (places .entry)) 0 (countsAt (now (counts .entry)) 0 n)) ⌝ }
 {
     let mut at = 0;
     let mut j = 0;
     while j < n {
         let c = counts[j] as usize;
         let v = sides_by(
+            given,
             t,
             plane_for(t, points, m, places, at, c),
             places,
@@ -326,8 +450,9 @@ pub fn is_counted(m: usize, counts: &[u64], n: usize) -> bool
     (is_within(4, 128, m) & is_within(4, 64, n)) & all_polygons(counts, n)
 }
 
-// Frames, then pairs of points, then sides.
+// Frames, then pairs of points, then sides and, where the solid is given, turns.
 pub fn shape(
+    given: bool,
     t: Precision,
     points: &[f64],
     m: usize,
@@ -336,7 +461,7 @@ pub fn shape(
     n: usize,
 ) -> Verdict
     requires { ⌜ (3 * m ≤ length (now points)) × (n ≤ length (now counts)) × Placing (countsAt (now counts) 0 n) 0 (length (now places)) ⌝ }
-    ensures { λ r. ⌜ r ≡ shaped t (pointsAt (now (points .entry)) 0 m) (facesAt (now (places .entry)) 0 (countsAt (now (counts .entry)) 0 n)) ⌝ }
+    ensures { λ r. ⌜ r ≡ shaped given t (pointsAt (now (points .entry)) 0 m) (facesAt (now (places .entry)) 0 (countsAt (now (counts .entry)) 0 n)) ⌝ }
 {
     let framed = all_framed(t, points, m, places, counts, n);
     let Verdict::Fine = framed else {
@@ -346,5 +471,5 @@ pub fn shape(
     let Verdict::Fine = apart else {
         return apart;
     };
-    all_sides(t, points, m, places, counts, n)
+    all_sides(given, t, points, m, places, counts, n)
 }

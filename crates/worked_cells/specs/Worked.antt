@@ -19,6 +19,7 @@ use Rattle.groups.specs.Chain.{upFrom, pairsOf}
 use Rattle.groups.specs.Groups.{joinsOf}
 use Rattle.solids.specs.Apart.{firstOf, eachIn, notNear, apartFrom, apartAll}
 use Rattle.solids.specs.Sides.{has, judgeSide, pointSide, someBelow, faceSides}
+use Rattle.solids.specs.Dents.{turnsIf}
 use Rattle.solids.specs.Frames.{planeFor, framedAll, sidesBy, sidesAll}
 use Rattle.solids.specs.Order.{fairAll, shaped}
 use Rattle.topology.specs.Topology.{cornersOf, count, fits, usedAll, faceWith, joins, connected, rounded, soundBy, sound}
@@ -86,13 +87,13 @@ sound-7 : sound (length (solid7 .points)) (solid7 .faces) ≡ true
 unfolding openSpace has nbr nbrs components upFrom pairsOf joinsOf cornersOf count fits usedAll faceWith joins connected rounded soundBy sound
 sound-7 = refl
 
-shaped-7 : shaped tol (solid7 .points) (solid7 .faces) ≡ Fine
-unfolding openSide verdictOf firstOf eachIn notNear apartFrom apartAll has judgeSide pointSide someBelow faceSides planeFor framedAll sidesBy sidesAll shaped
+shaped-7 : shaped false tol (solid7 .points) (solid7 .faces) ≡ Fine
+unfolding openSide verdictOf firstOf eachIn notNear apartFrom apartAll has judgeSide pointSide someBelow faceSides planeFor framedAll turnsIf sidesBy sidesAll shaped
 shaped-7 = refl
 
 checked-7 : check false tol solid7 ≡ ok (framed tol (solid7 .points) (solid7 .faces))
 unfolding check after
-checked-7 = rw (fair-7, sound-7, shaped-7) (cell-framed tol solid7 shaped-7)
+checked-7 = rw (fair-7, sound-7, shaped-7) (cell-framed false tol solid7 shaped-7)
 
 built-7 : built tol cut5 ≡ ok solid7
 unfolding built

@@ -14,6 +14,7 @@ use Rattle.groups.specs.Chain.{pairsOf, upFrom}
 use Rattle.groups.specs.Groups.{joinsOf}
 use Rattle.solids.specs.Apart.{firstOf, eachIn, notNear, apartFrom, apartAll}
 use Rattle.solids.specs.Sides.{has, judgeSide, pointSide, someBelow, faceSides}
+use Rattle.solids.specs.Dents.{turnsIf}
 use Rattle.solids.specs.Frames.{planeFor, framedAll, sidesBy, sidesAll}
 use Rattle.solids.specs.Order.{fairAll, shaped}
 use Rattle.topology.specs.Topology.{cornersOf, count, fits, usedAll, faceWith, joins, connected, rounded, soundBy, sound}
@@ -44,7 +45,7 @@ unfolding openOffset
 by-two = refl
 
 unfoldable pub openCheck : Unit {0}
-unfolding openIndexed verdictOf fair fairPoint fairAll firstOf eachIn notNear apartFrom apartAll has judgeSide pointSide someBelow faceSides planeFor framedAll sidesBy sidesAll shaped upFrom hit nbr nbrs pairsOf joinsOf visit′ visit visits gather comps components cornersOf count fits usedAll faceWith joins connected rounded soundBy sound faceOf cellOf after check built
+unfolding openIndexed verdictOf fair fairPoint fairAll firstOf eachIn notNear apartFrom apartAll has judgeSide pointSide someBelow faceSides planeFor framedAll turnsIf sidesBy sidesAll shaped upFrom hit nbr nbrs pairsOf joinsOf visit′ visit visits gather comps components cornersOf count fits usedAll faceWith joins connected rounded soundBy sound faceOf cellOf after check built
 openCheck = tt
 
 half-built : built tol (movedBox h1 h3) ≡ ok (solidBox h1 h3)

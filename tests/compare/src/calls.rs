@@ -3,7 +3,7 @@ use crate::report::{Report, Told};
 use crate::Scale;
 use gen::calls::{self, hex, Question, MOST_CORNERS, MOST_MEMORY};
 use gen::family::Family;
-use gen::{cells, damage, facets, jobs, limits, pairs, Random};
+use gen::{cells, damage, dents, facets, jobs, limits, pairs, Random};
 use oracle::{Call, CellFile, Job, Solid, Tolerances, CORNER_BYTES, SOLIDJOB_ROOM};
 use port::calls::{Asked, Desk, Entry, Lending, CELLS, FUSE, HOLLOW, MESH, OFFSET};
 use std::{fmt, thread};
@@ -329,6 +329,8 @@ fn of_jobs(layer: &mut Layer, call: Call, each: usize) {
     });
     layer.ask_all("other tolerances", of(tolerances.collect()));
     layer.ask_all("counts", of(in_place(&pairs[0], damage::counts())));
+    let known = dents::known().into_iter().map(|(_, solid, _)| solid);
+    layer.ask_all("known dents", of(in_place(&pairs[0], known.collect())));
     layer.ask_short(|r| (call, any(r).bytes()));
     layer.ask_together(each / 16, |r| (call, any(r).bytes()));
 }
@@ -369,6 +371,10 @@ fn of_cells(layer: &mut Layer, call: fn(f64) -> Call) {
     layer.ask_all("01's box", by.map(|by| (call(by), cube.clone())));
     let counts = damage::counts().into_iter().map(cell_file).collect();
     layer.ask_all("counts", usual(counts));
+    let known = dents::known()
+        .into_iter()
+        .map(|(_, solid, _)| cell_file(solid));
+    layer.ask_all("known dents", usual(known.collect()));
     let tolerances = damage::other_tolerances().into_iter().map(|tolerances| {
         let solid = gen::solid::cube(0.0, 2.0);
         CellFile { tolerances, solid }.bytes()
@@ -394,26 +400,27 @@ pub fn fuse(report: &mut Report, seed: u64, scale: Scale) {
     let rare = jobs::rare().map(|(job, _)| (Call::Fuse, job.bytes()));
     layer.ask_all("what few jobs give", rare);
     layer.ask_lines();
-    let numbers: Vec<u64> = (0..=23).filter(|&n| n != 8).collect();
+    let numbers: Vec<u64> = (0..=23).filter(|&n| n != 8).chain([33]).collect();
     report.reached("fuse", &numbers);
 }
 
 pub fn cells(report: &mut Report, seed: u64, scale: Scale) {
     let mut layer = Layer::new(report, "cells", CELLS, seed, scale);
     of_jobs(&mut layer, Call::Cells, EACH);
-    report.reached("cells", &[0, 1, 2, 3, 4, 5, 6, 7, 9, 10, 12]);
+    report.reached("cells", &[0, 1, 2, 3, 4, 5, 6, 7, 9, 10, 12, 33]);
 }
 
 pub fn offset(report: &mut Report, seed: u64, scale: Scale) {
     let mut layer = Layer::new(report, "offset", OFFSET, seed, scale);
     of_cells(&mut layer, Call::Offset);
-    report.reached("offset", &[0, 1, 2, 3, 4, 5, 6, 7, 12, 24, 25, 26, 27]);
+    let numbers = [0, 1, 2, 3, 4, 5, 6, 7, 12, 24, 25, 26, 27, 33];
+    report.reached("offset", &numbers);
 }
 
 pub fn hollow(report: &mut Report, seed: u64, scale: Scale) {
     let mut layer = Layer::new(report, "hollow", HOLLOW, seed, scale);
     of_cells(&mut layer, Call::Hollow);
-    let numbers = [0, 1, 2, 3, 4, 5, 6, 7, 12, 24, 25, 26, 27, 28, 29];
+    let numbers = [0, 1, 2, 3, 4, 5, 6, 7, 12, 24, 25, 26, 27, 28, 29, 33];
     report.reached("hollow", &numbers);
 }
 

@@ -1,7 +1,7 @@
-//! The check of a cell's bytes: the number of the reader and of the solid check, with and without the counts.
+//! The check of a cell's bytes: the number of the reader and of the solid check, of a solid that is given and of one that was built.
 use crate::report::{Report, Told};
 use crate::Scale;
-use gen::{damage, jobs, leaves, solid, Random};
+use gen::{damage, dents, jobs, leaves, solid, Random};
 use oracle::{leaf, read_cell, CellFile, Solid, Tolerances};
 use port::solids::Desk;
 
@@ -12,13 +12,13 @@ const MANY: usize = 100_000;
 
 type Question = (Vec<u8>, bool);
 
-fn theirs((bytes, counted): &Question) -> Told<()> {
-    let checked = read_cell(bytes).and_then(|c| leaf::check(&c.tolerances, &c.solid, *counted));
+fn theirs((bytes, given): &Question) -> Told<()> {
+    let checked = read_cell(bytes).and_then(|c| leaf::check(&c.tolerances, &c.solid, *given));
     Some(checked.map(|_| ()).map_err(u64::from))
 }
 
-fn ours(desk: &mut Desk, (bytes, counted): &Question) -> Told<()> {
-    Some(match desk.check_cell(bytes, *counted) {
+fn ours(desk: &mut Desk, (bytes, given): &Question) -> Told<()> {
+    Some(match desk.check_cell(bytes, *given) {
         0 => Ok(()),
         number => Err(number),
     })
@@ -78,5 +78,12 @@ pub fn compare(report: &mut Report, seed: u64, scale: Scale) {
         file(t, jobs::solid(&mut random, 64))
     });
     ask("sound", sound.collect());
-    report.reached(CALL, &[0, 1, 2, 3, 4, 5, 6, 7]);
+    let known = dents::known().into_iter().map(|(_, s, _)| usual(s));
+    ask("known dents", known.collect());
+    let dented = (0..scale.of(MANY / 2)).map(|_| {
+        let t = jobs::tolerances(&mut random);
+        file(t, dents::any(&mut random, &t))
+    });
+    ask("dents", dented.collect());
+    report.reached(CALL, &[0, 1, 2, 3, 4, 5, 6, 7, 33]);
 }

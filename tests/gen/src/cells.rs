@@ -1,4 +1,5 @@
 //! Cells to offset and to hollow.
+use crate::dents;
 use crate::family::{family, Family};
 use crate::jobs::{sliver, solid, split_side, tolerances};
 use crate::leaves::{flip, stepped};
@@ -18,7 +19,7 @@ fn moved(tolerances: Tolerances, solid: Solid, by: f64) -> Moved {
     Moved { cell, by }
 }
 
-pub const FAMILIES: [Family<Moved>; 10] = [
+pub const FAMILIES: [Family<Moved>; 11] = [
     family("boxes", |r| one(r, boxed), 1),
     family(
         "prisms",
@@ -33,6 +34,7 @@ pub const FAMILIES: [Family<Moved>; 10] = [
         1,
     ),
     family("split sides", |r| one(r, split_side), 1),
+    family("dents", dented, 1),
     family("slivers", |r| one(r, sliver), 1),
     family("about half a box", box_near_half, 1),
     family("far out", far, 1),
@@ -101,6 +103,14 @@ fn one(random: &mut Random, solid: fn(&mut Random) -> Solid) -> Moved {
         1 => solid = solid.reordered(random),
         _ => (),
     }
+    let by = distance(random, &t);
+    moved(t, solid, by)
+}
+
+/// A cell with a dent or a straight run.
+fn dented(random: &mut Random) -> Moved {
+    let t = tolerances(random);
+    let solid = dents::any(random, &t);
     let by = distance(random, &t);
     moved(t, solid, by)
 }

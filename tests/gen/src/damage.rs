@@ -1,6 +1,7 @@
 //! Damaged files: what 1, 2, 3 and 4 are given for, and what comes close to it.
+use crate::dents;
 use crate::random::Random;
-use crate::solid::{add, cube, prism, scale, Reshape};
+use crate::solid::{add, cube, prism, scale};
 use oracle::{join, CellFile, FacetFile, Job, Record, Solid, Tolerances};
 
 /// A file cut short at every length, the whole file not included.
@@ -132,17 +133,14 @@ pub fn moved_point(random: &mut Random, solid: &Solid, t: &Tolerances) -> Solid 
     solid
 }
 
-/// A box with one side split into an L and a square: a dented face, which the check lets through.
+/// A box with one side split into an L and a square: every point passes the plane tests, and the L is dented (4).
 pub fn dented() -> Solid {
-    let mut solid = cube(0.0, 2.0);
-    solid
-        .points
-        .extend([[1.0, 0.0, 2.0], [1.0, 1.0, 2.0], [0.0, 1.0, 2.0]]);
-    solid.faces[0] = vec![0, 4, 10, 6, 2];
-    solid.faces[1] = vec![0, 1, 5, 8, 4];
-    solid.faces[5] = vec![5, 7, 6, 10, 9, 8];
-    solid.faces.push(vec![4, 8, 9, 10]);
-    solid
+    dents::split_top([1.0, 1.0])
+}
+
+/// The same, where the corner between the two faces lies on the line between its neighbours: both go straight on there, and it passes.
+pub fn straightened() -> Solid {
+    dents::split_top([0.5, 0.5])
 }
 
 /// A corner of one solid of the job damaged in any of these ways.
@@ -152,7 +150,7 @@ pub fn any_solid(random: &mut Random, solid: &Solid, t: &Tolerances) -> Solid {
         1 => windings(random, solid),
         2 => structure(random, solid),
         3 => moved_point(random, solid, t),
-        _ => dented().reordered(random),
+        _ => dents::any(random, t),
     }
 }
 

@@ -1,4 +1,5 @@
 //! Families of jobs.
+use crate::dents;
 use crate::family::{family, Family};
 use crate::random::Random;
 use crate::solid::{ball, cube, cuboid, gem, prism, pyramid, split_box, tetrahedron, Reshape};
@@ -203,7 +204,7 @@ pub fn any(random: &mut Random) -> Job {
     }
 }
 
-pub const FAMILIES: [Family<Job>; 19] = [
+pub const FAMILIES: [Family<Job>; 21] = [
     family("boxes", |r| lattice(r.below(LATTICE)), 1),
     family(
         "prisms",
@@ -222,6 +223,8 @@ pub const FAMILIES: [Family<Job>; 19] = [
         2,
     ),
     family("split sides", |r| both(r, split_side), 2),
+    family("sides of two triangles", |r| both(r, split_across), 2),
+    family("dents", dented, 1),
     family("slivers", |r| both(r, sliver), 1),
     family("touching", touching, 1),
     family("apart", |r| beside(r, 0.25), 1),
@@ -253,7 +256,7 @@ const RARE: [(Make, u64, u32); 17] = [
     (sixteenth, 1749, 18),
     (sixteenth, 90, 19),
     (sixteenth, 258, 19),
-    (|r| both(r, split_side), 2412, 21),
+    (|r| both(r, split_side), 2042, 21),
     (|r| both(r, split_side), 4077, 21),
     (|r| both(r, split_side), 4125, 22),
     (|r| both(r, split_side), 4758, 22),
@@ -440,6 +443,30 @@ pub fn split_side(random: &mut Random) -> Solid {
     let high = [(); 3].map(|()| 0.5 + random.unit());
     let share = random.pick(&[0.5, 0.25, 0.9]);
     split_box([-0.5; 3], high, share)
+}
+
+/// A box with a side of two triangles: no straight run, so that it passes the check turned, too.
+fn split_across(random: &mut Random) -> Solid {
+    let mut solid = cuboid([-0.5; 3], [(); 3].map(|()| 0.5 + random.unit()));
+    solid.faces[5] = vec![4, 5, 7];
+    solid.faces.push(vec![4, 7, 6]);
+    solid
+}
+
+/// A solid with a dent or a straight run, and a box across it or beside it, either of them first.
+fn dented(random: &mut Random) -> Job {
+    let t = tolerances(random);
+    let mut first = dents::any(random, &t);
+    let mut second = cube(0.0, 1.0).shifted(around(random, 1.0));
+    if random.below(4) == 0 {
+        std::mem::swap(&mut first, &mut second);
+    }
+    Job {
+        tolerances: t,
+        first,
+        second,
+        operation: operation(random),
+    }
 }
 
 /// A wedge, a box or a prism that is thin in one direction.

@@ -3,6 +3,7 @@ pub mod calls;
 pub mod cells;
 pub mod cuts;
 pub mod damage;
+pub mod dents;
 pub mod facets;
 pub mod family;
 pub mod jobs;

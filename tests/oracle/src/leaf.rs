@@ -274,11 +274,11 @@ pub fn indexed(t: &Tolerances, cell: &[Face]) -> Outcome<Solid> {
     })
 }
 
-/// The solid check, with the counts for what is given, without for what is made; the answer is
+/// The solid check, with counts and turns for an input solid, without for what is made; the answer is
 /// the cell with the planes of its faces.
-pub fn check(t: &Tolerances, solid: &Solid, counts: bool) -> Outcome<Cell> {
+pub fn check(t: &Tolerances, solid: &Solid, input: bool) -> Outcome<Cell> {
     let (solid, p) = (given(solid), precision(t));
-    outcome(check::solid(&solid, &p, counts))?;
+    outcome(check::solid(&solid, &p, input))?;
     let planes = outcome(check::planes(&solid, &p))?;
     let face = |(f, plane): (&Vec<usize>, geom::Plane)| Face {
         plane: plain_plane(plane),

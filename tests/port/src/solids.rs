@@ -5,7 +5,7 @@ mod raw {
         pub fn leaf_check_cell(
             job: *const u8,
             job_n: usize,
-            counted: u64,
+            given: u64,
             points: *mut f64,
             points_n: usize,
             counts: *mut u64,
@@ -64,13 +64,13 @@ impl Default for Desk {
 
 impl Desk {
     /// Document 01's number for a cell's bytes; 0 where the solid passes.
-    pub fn check_cell(&mut self, job: &[u8], counted: bool) -> u64 {
+    pub fn check_cell(&mut self, job: &[u8], given: bool) -> u64 {
         // SAFETY: each pointer goes with the length of its own vector.
         unsafe {
             raw::leaf_check_cell(
                 job.as_ptr(),
                 job.len(),
-                counted.into(),
+                given.into(),
                 self.points.as_mut_ptr(),
                 self.points.len(),
                 self.counts.as_mut_ptr(),

@@ -1,9 +1,10 @@
-//! Document 01's check of a solid, in its order: 2, 3, 4, 5, 4 or 6, 7 or 4.
+//! Document 01's check of a solid, in its order: 2, 3, 4, 5, 4 or 6, 7 or 4; and of a face that is given 33 or 4, request 2/13's.
 use super::boundary::near;
 use super::core::{Error, Precision, Result};
 use super::geom::Plane;
-use super::math::{Frame, Point3, Sign};
+use super::math::{Frame, Interval, Point3, Sign};
 use super::topo::Solid;
+use crate::mesh::{orientation, Projected};
 use crate::planar::side;
 use std::collections::BTreeMap;
 
@@ -12,14 +13,18 @@ const MOST: f64 = 1_048_576.0;
 
 type Edge = (usize, usize);
 
-pub fn solid(solid: &Solid, p: &Precision, counts: bool) -> Result<()> {
+/// Counts and turns are tested only of a solid that is given.
+pub fn solid(solid: &Solid, p: &Precision, given: bool) -> Result<()> {
     require(numbers(solid), Error::numbers())?;
-    require(!counts || counted(solid), Error::counts())?;
+    require(!given || counted(solid), Error::counts())?;
     require(sound(solid), Error::solid())?;
     let planes = planes(solid, p)?;
     apart(&solid.points, p)?;
     for (face, plane) in solid.faces.iter().zip(planes) {
         sides(&solid.points, face, plane, p)?;
+        if given {
+            turns(&solid.points, face, plane, p)?;
+        }
     }
     Ok(())
 }
@@ -129,4 +134,22 @@ fn sides(points: &[Point3], face: &[usize], plane: Plane, p: &Precision) -> Resu
         below |= sign == Sign::Negative;
     }
     require(below, Error::solid())
+}
+
+/// "Each three consecutive corners, in the face's own local coordinates as points", round the face.
+fn turns(points: &[Point3], face: &[usize], plane: Plane, p: &Precision) -> Result<()> {
+    let flat = |&i: &usize| {
+        let local = plane.frame().to_local(points[i]);
+        Projected {
+            x: Interval::point(local.x),
+            y: Interval::point(local.y),
+        }
+    };
+    let corners: Vec<_> = face.iter().map(flat).collect();
+    let corner = |i: usize| corners[i % corners.len()];
+    for i in 0..corners.len() {
+        let turn = orientation(p, corner(i), corner(i + 1), corner(i + 2))?;
+        require(turn != Sign::Negative, Error::solid())?;
+    }
+    Ok(())
 }
