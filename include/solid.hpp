@@ -433,8 +433,8 @@ private:
     std::vector<std::uint8_t> answer_;
 };
 
-// What stands in `plain` is called as solid::volume, and never taken for a caller's own function of that name.
-namespace plain {
+// What stands here is called as solid::volume, and never taken for a caller's own function of that name.
+namespace in_plain_doubles {
 
 // Six times the signed volume of the tetrahedron from o to three corners.
 inline double six_volumes(const Point &o, const Point &p, const Point &q, const Point &r) noexcept
@@ -469,9 +469,9 @@ inline double six_volumes(const Point &o, const Point &p, const Point &q, const 
     return v;
 }
 
-} // namespace plain
+} // namespace in_plain_doubles
 
-using namespace plain;
+using namespace in_plain_doubles;
 
 enum class Operation : std::uint8_t { intersection = 1, difference = 2, union_ = 3 };
 

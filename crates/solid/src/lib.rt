@@ -1,4 +1,5 @@
-// The library as C and C++ call it (`include/solid.h`). No call has a `requires`; what each hands back is determined (`specs/Only`).
+// The library as C and C++ call it (`include/solid.h`, which also sees to the floating-point environment that the machine code needs). No call
+// has a `requires`; what each hands back is determined (`specs/Only`).
 ghost use mathlib.Core.Path.{_≡_};
 ghost use Rattle.solid.specs.Calls.{FuseDone, CellsDone, OffsetDone, HollowDone, MeshDone};
 
