@@ -6,7 +6,12 @@
  *
  * number: 0 for an answer, else why it was refused (docs/01-scope.md, "Refusal numbers"). bytes: how many bytes of the
  * answer memory were written, from its start; 0 for a refusal. What lies behind them is left as it was, and all of it after
- * a refusal. There is no static state: calls with different rooms may run at the same time.
+ * a refusal. There is no static state: calls with different rooms may run at the same time. No call takes more than 320 KB
+ * of stack.
+ *
+ * The calls to make are those that end in `_in`, at the end of this file. They compute in the default floating-point
+ * environment (round to nearest, no traps, no flush to zero) whatever the host's is, and hand the host's back as it was,
+ * flags included.
  *
  * The work room is counted in corners and lent as slices of numbers (below). What stands in them before a call does not
  * matter; after every call they are zero. The answer memory needs 64 bytes for each corner of the work room: 12 where it
@@ -31,10 +36,45 @@
 
 #include <stddef.h>
 #include <stdint.h>
+#if !defined(__GNUC__) || !(defined(__x86_64__) || defined(__aarch64__))
+#include <fenv.h>
+#endif
 
 #ifdef __cplusplus
 extern "C" {
 #endif
+
+/* The version of this header: 10,000 times the major number, 100 times the minor one, and the patch (docs/CHANGES.md). */
+#define SOLID_VERSION 200
+
+/* The version of the archive. The last number of its name is that of the layout: what header and archive must agree on,
+ * parameters, work slices, the bytes given and answered. Every call that ends in `_in` asks for it, so that a program does not
+ * link where the archive has another layout than its header. */
+uint64_t solid_version_1(void);
+
+/* How the functions of this header are made: in C++ once in a program, in C once in each file. The calls are never inlined,
+ * so that no arithmetic of the caller's slips in where the floating-point environment is not the caller's. bindings/solid.c
+ * makes symbols of them, for other languages. */
+#ifdef __cplusplus
+#define SOLID_PART inline
+#else
+#define SOLID_PART static inline
+#endif
+#ifndef SOLID_CALL
+#if !defined(__GNUC__)
+#define SOLID_CALL SOLID_PART
+#elif defined(__cplusplus)
+#define SOLID_CALL inline __attribute__((noinline))
+#else
+#define SOLID_CALL static __attribute__((noinline, unused))
+#endif
+#endif
+
+/* The version of the archive, which a caller can compare with SOLID_VERSION. */
+SOLID_CALL uint64_t solid_version(void)
+{
+    return solid_version_1();
+}
 
 /* The work slices of each call in their order. F(name, each, more) is a slice of double, U(name, each, more) one of
  * uint64_t; for a room of n corners it has each * n + more numbers, or more. */
@@ -50,6 +90,12 @@ extern "C" {
 
 #define SOLID_F64_SLICE(name, each, more) double *name, size_t name##_n,
 #define SOLID_U64_SLICE(name, each, more) uint64_t *name, size_t name##_n,
+
+/* The functions that the archive exports, as they are proved. They compute in the floating-point environment that they meet,
+ * and need the default one: rounding to nearest, no traps, no flush to zero, no subnormals taken for zero (on x86-64 the
+ * control bits of MXCSR as in 0x1f80, on Arm FPCR 0). In another one they may answer other bytes with number 0, or end in a
+ * signal. They may raise exception flags. solid_fp_enter and solid_fp_leave, below, put the host's environment aside for such
+ * a call. */
 
 /* The operation of a job as fused bodies: cells that share a facet belong to one body, and no shared facet is listed. */
 uint64_t solid_fuse(const uint8_t *job, size_t job_n, uint64_t corners,
@@ -71,7 +117,7 @@ uint64_t solid_hollow(const uint8_t *cell, size_t cell_n, double thickness, uint
 uint64_t solid_mesh(const uint8_t *facet, size_t facet_n, uint8_t *answer, size_t answer_n);
 
 /* What a number of document 01's says, in a few words for a log; no words for any other number. */
-static inline const char *solid_reason(uint64_t number)
+SOLID_CALL const char *solid_reason(uint64_t number)
 {
     static const char *const words[] = {
         "an answer",
@@ -113,15 +159,71 @@ static inline const char *solid_reason(uint64_t number)
     return number < sizeof words / sizeof words[0] ? words[number] : "";
 }
 
+/* The floating-point environment of a host: its control bits and flags, put aside while a call runs in the default one. On
+ * x86-64 the kernel computes in SSE registers alone, so the x87 unit is not touched. */
+#if defined(__GNUC__) && defined(__x86_64__)
+typedef struct {
+    uint32_t mxcsr;
+} solid_fp;
+
+SOLID_PART solid_fp solid_fp_enter(void)
+{
+    solid_fp host;
+    const uint32_t plain = 0x1f80;
+    __asm__ volatile("stmxcsr %0\n\tldmxcsr %1" : "=m"(host.mxcsr) : "m"(plain) : "memory");
+    return host;
+}
+
+SOLID_PART void solid_fp_leave(solid_fp host)
+{
+    __asm__ volatile("ldmxcsr %0" : : "m"(host.mxcsr) : "memory");
+}
+#elif defined(__GNUC__) && defined(__aarch64__)
+typedef struct {
+    uint64_t fpcr, fpsr;
+} solid_fp;
+
+SOLID_PART solid_fp solid_fp_enter(void)
+{
+    solid_fp host;
+    __asm__ volatile("mrs %0, fpcr\n\tmrs %1, fpsr\n\tmsr fpcr, xzr\n\tmsr fpsr, xzr"
+                     : "=&r"(host.fpcr), "=&r"(host.fpsr)
+                     :
+                     : "memory");
+    return host;
+}
+
+SOLID_PART void solid_fp_leave(solid_fp host)
+{
+    __asm__ volatile("msr fpcr, %0\n\tmsr fpsr, %1" : : "r"(host.fpcr), "r"(host.fpsr) : "memory");
+}
+#else
+/* Elsewhere the C library does it, which may need -lm. */
+typedef fenv_t solid_fp;
+
+SOLID_PART solid_fp solid_fp_enter(void)
+{
+    solid_fp host;
+    fegetenv(&host);
+    fesetenv(FE_DFL_ENV);
+    return host;
+}
+
+SOLID_PART void solid_fp_leave(solid_fp host)
+{
+    fesetenv(&host);
+}
+#endif
+
 /* One block of memory for all work slices, 8 bytes a word and aligned to 8: any call takes its slices out of it. */
 
 /* The most corners of such a block: no product below overflows, and in a larger room no job is answered. */
-#define SOLID_MOST_CORNERS ((uint64_t)1 << 32)
+#define SOLID_MOST_CORNERS (UINT64_C(1) << 32)
 
-#define SOLID_WORDS(name, each, more) +(uint64_t)(each) * corners + (uint64_t)(more)
+#define SOLID_WORDS(name, each, more) +UINT64_C(each) * corners + UINT64_C(more)
 
 /* The words that every call of a room of so many corners finds enough; corners is at most SOLID_MOST_CORNERS. */
-static inline uint64_t solid_room_words(uint64_t corners)
+SOLID_CALL uint64_t solid_room_words(uint64_t corners)
 {
     const uint64_t words[] = {
         0 SOLID_FUSE_WORK(SOLID_WORDS, SOLID_WORDS),
@@ -136,56 +238,89 @@ static inline uint64_t solid_room_words(uint64_t corners)
     return most;
 }
 
-#define SOLID_F64_CARVE(name, each, more)                                                                                   \
-    double *name = (double *)at;                                                                                            \
-    const size_t name##_n = (size_t)((each) * corners + (more));                                                            \
-    at += 8 * name##_n;
+#ifdef __cplusplus
+#define SOLID_CAST(type, value) reinterpret_cast<type>(value)
+#else
+#define SOLID_CAST(type, value) ((type)(value))
+#endif
 #define SOLID_U64_CARVE(name, each, more)                                                                                   \
-    uint64_t *name = (uint64_t *)at;                                                                                        \
-    const size_t name##_n = (size_t)((each) * corners + (more));                                                            \
-    at += 8 * name##_n;
+    uint64_t *const name = at;                                                                                              \
+    const size_t name##_n = UINT64_C(each) * corners + UINT64_C(more);                                                      \
+    at += name##_n;
+#define SOLID_F64_CARVE(name, each, more)                                                                                   \
+    double *const name = SOLID_CAST(double *, at);                                                                          \
+    const size_t name##_n = UINT64_C(each) * corners + UINT64_C(more);                                                      \
+    at += name##_n;
 #define SOLID_LEND(name, each, more) name, name##_n,
 
-/* The calls with their work slices out of a block of solid_room_words(corners) words. */
-
-static inline uint64_t solid_fuse_in(void *room, const uint8_t *job, size_t job_n, uint64_t corners, uint8_t *answer,
-                                     size_t answer_n)
+/* Whether slices can be taken out of a block. The version is asked for, for the sake of linking. */
+SOLID_PART int solid_lends(const void *room, uint64_t corners)
 {
-    unsigned char *at = (unsigned char *)room;
-    SOLID_FUSE_WORK(SOLID_F64_CARVE, SOLID_U64_CARVE)
-    return solid_fuse(job, job_n, corners, SOLID_FUSE_WORK(SOLID_LEND, SOLID_LEND) answer, answer_n);
+    return solid_version() != 0 && room && corners <= SOLID_MOST_CORNERS;
 }
 
-static inline uint64_t solid_cells_in(void *room, const uint8_t *job, size_t job_n, uint64_t corners, uint8_t *answer,
-                                      size_t answer_n)
+/* What each call below does. */
+#define SOLID_IN(WORK, CALL)                                                                                                \
+    if (!solid_lends(room, corners))                                                                                        \
+        return 12;                                                                                                          \
+    uint64_t *at = SOLID_CAST(uint64_t *, room);                                                                            \
+    WORK(SOLID_F64_CARVE, SOLID_U64_CARVE)                                                                                  \
+    const solid_fp host = solid_fp_enter();                                                                                 \
+    const uint64_t told = CALL;                                                                                             \
+    solid_fp_leave(host);                                                                                                   \
+    return told;
+
+/* The calls: with their work slices out of a block of solid_room_words(corners) words, and in the default floating-point
+ * environment; the host's is handed back as it was. 12 where there is no block, and above SOLID_MOST_CORNERS. */
+
+SOLID_CALL uint64_t solid_fuse_in(void *room, const uint8_t *job, size_t job_n, uint64_t corners, uint8_t *answer,
+                                  size_t answer_n)
 {
-    unsigned char *at = (unsigned char *)room;
-    SOLID_CELLS_WORK(SOLID_F64_CARVE, SOLID_U64_CARVE)
-    return solid_cells(job, job_n, corners, SOLID_CELLS_WORK(SOLID_LEND, SOLID_LEND) answer, answer_n);
+    SOLID_IN(SOLID_FUSE_WORK,
+             solid_fuse(job, job_n, corners, SOLID_FUSE_WORK(SOLID_LEND, SOLID_LEND) answer, answer_n))
 }
 
-static inline uint64_t solid_offset_in(void *room, const uint8_t *cell, size_t cell_n, double distance, uint64_t corners,
-                                       uint8_t *answer, size_t answer_n)
+SOLID_CALL uint64_t solid_cells_in(void *room, const uint8_t *job, size_t job_n, uint64_t corners, uint8_t *answer,
+                                   size_t answer_n)
 {
-    unsigned char *at = (unsigned char *)room;
-    SOLID_OFFSET_WORK(SOLID_F64_CARVE, SOLID_U64_CARVE)
-    return solid_offset(cell, cell_n, distance, corners, SOLID_OFFSET_WORK(SOLID_LEND, SOLID_LEND) answer, answer_n);
+    SOLID_IN(SOLID_CELLS_WORK,
+             solid_cells(job, job_n, corners, SOLID_CELLS_WORK(SOLID_LEND, SOLID_LEND) answer, answer_n))
 }
 
-static inline uint64_t solid_hollow_in(void *room, const uint8_t *cell, size_t cell_n, double thickness, uint64_t corners,
-                                       uint8_t *answer, size_t answer_n)
+SOLID_CALL uint64_t solid_offset_in(void *room, const uint8_t *cell, size_t cell_n, double distance, uint64_t corners,
+                                    uint8_t *answer, size_t answer_n)
 {
-    unsigned char *at = (unsigned char *)room;
-    SOLID_HOLLOW_WORK(SOLID_F64_CARVE, SOLID_U64_CARVE)
-    return solid_hollow(cell, cell_n, thickness, corners, SOLID_HOLLOW_WORK(SOLID_LEND, SOLID_LEND) answer, answer_n);
+    SOLID_IN(SOLID_OFFSET_WORK,
+             solid_offset(cell, cell_n, distance, corners, SOLID_OFFSET_WORK(SOLID_LEND, SOLID_LEND) answer, answer_n))
+}
+
+SOLID_CALL uint64_t solid_hollow_in(void *room, const uint8_t *cell, size_t cell_n, double thickness, uint64_t corners,
+                                    uint8_t *answer, size_t answer_n)
+{
+    SOLID_IN(SOLID_HOLLOW_WORK,
+             solid_hollow(cell, cell_n, thickness, corners, SOLID_HOLLOW_WORK(SOLID_LEND, SOLID_LEND) answer, answer_n))
+}
+
+/* It takes no block. */
+SOLID_CALL uint64_t solid_mesh_in(const uint8_t *facet, size_t facet_n, uint8_t *answer, size_t answer_n)
+{
+    (void)solid_version();
+    const solid_fp host = solid_fp_enter();
+    const uint64_t told = solid_mesh(facet, facet_n, answer, answer_n);
+    solid_fp_leave(host);
+    return told;
 }
 
 #undef SOLID_F64_SLICE
 #undef SOLID_U64_SLICE
 #undef SOLID_WORDS
+#undef SOLID_CAST
 #undef SOLID_F64_CARVE
 #undef SOLID_U64_CARVE
 #undef SOLID_LEND
+#undef SOLID_IN
+#undef SOLID_PART
+#undef SOLID_CALL
 
 #ifdef __cplusplus
 }

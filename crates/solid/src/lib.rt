@@ -1,4 +1,6 @@
-// The library as C and C++ call it (`include/solid.h`). No call has a `requires`; what each hands back is determined (`specs/Only`).
+// The library as C and C++ call it (`include/solid.h`, which also sees to the floating-point environment that the machine code needs). No call
+// has a `requires`; what each hands back is determined (`specs/Only`).
+ghost use mathlib.Core.Path.{_≡_};
 ghost use Rattle.solid.specs.Calls.{FuseDone, CellsDone, OffsetDone, HollowDone, MeshDone};
 
 // The fused bodies of a job's operation: the number of the refusal, or 256 times the bytes of the answer, which stands at the front of
@@ -148,4 +150,13 @@ pub extern "C" fn solid_mesh(facet: &[u8], answer: &mut [u8]) -> u64
     ensures { λ r. ⌜ MeshDone (now (facet .entry)) (now (answer .entry)) r (now (answer .exit)) ⌝ }
 {
     solid_mesh::mesh(facet, answer)
+}
+
+// The version of the archive: 10,000 times the major number, 100 times the minor one, and the patch. The number in its name is that of the
+// layout on which header and archive must agree: `include/solid.h` asks for it by that name.
+#[no_mangle]
+pub extern "C" fn solid_version_1() -> u64
+    ensures { λ r. ⌜ r ≡ 200 ⌝ }
+{
+    200
 }
