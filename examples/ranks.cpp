@@ -1,8 +1,8 @@
 // ranks STREAM [ANSWERS]: fuses a stream of jobs on all ranks of an MPI run. `help` below says how it is used.
 //
-// Rank 0 reads the stream and gives a job to each rank that has fewer than two; what comes back it writes in the stream's order. It works as
-// well: a thread of its own takes jobs as another rank does, so that all messages are the first thread's. A rank's memory grows with its jobs
-// and is kept. No rank spins: one that waits asks again after a pause, so that more ranks than processors do no harm.
+// Rank 0 reads the stream and gives a job to each rank that has fewer than eight; what comes back it writes in the stream's order. It
+// works as well: a thread of its own takes jobs as another rank does, so that all messages are the first thread's. A rank's memory grows
+// with its jobs and is kept. No rank spins: one that waits asks again after a pause, so that more ranks than processors do no harm.
 #include "growing.hpp"
 
 #define OMPI_SKIP_MPICXX // the calls of C alone
@@ -30,17 +30,17 @@ using Bytes = std::vector<std::uint8_t>;
 const char *const help =
     R"(usage: mpirun -n RANKS ranks STREAM [ANSWERS]
 
-Fuses every job of STREAM ('-': standard input), each behind its length in 4 bytes, the lowest first. Prints a line for each job and then how
-many gave each number. ANSWERS gets, for each job in the stream's order, its length in 4 bytes, then one byte of refusal number and the bytes
-of the answer. Both are the same for any number of ranks. A refused job stops nothing; where the stream ends inside a job, what is left
-of it is 1.
+Fuses every job of STREAM ('-': standard input), each behind its length in 4 bytes, the lowest first. Prints a line for each job and
+then how many gave each number. ANSWERS gets, for each job in the stream's order, its length in 4 bytes, then one byte of refusal
+number and the bytes of the answer. Both are the same for any number of ranks. A refused job stops nothing; where the stream ends
+inside a job, what is left of it is 1.
 Status: 0 the whole stream was fused, 1 it ended inside a job, 2 trouble: a file that cannot be read or written, or wrong words.
 )";
 
 enum Tag { job_tag = 1, done_tag, end_tag };
 
 constexpr std::size_t most_bytes = 32768; // of a job
-constexpr std::size_t at_once = 2;        // jobs that a rank has: the next lies there when one is done
+constexpr std::size_t at_once = 8;        // jobs that a rank has: some milliseconds of work, until rank 0 looks again
 
 // A job's record: its number, then the bytes of its answer. Memory that cannot be had is a room that is too small.
 Bytes fused(const Bytes &job, growing::Bench &bench)
@@ -276,7 +276,8 @@ private:
         if (rank == 0)
             own_.give(std::move(given.job));
         else
-            MPI_Isend(given.job.data(), static_cast<int>(given.job.size()), MPI_BYTE, static_cast<int>(rank), job_tag, MPI_COMM_WORLD, &given.sent);
+            MPI_Isend(given.job.data(), static_cast<int>(given.job.size()), MPI_BYTE, static_cast<int>(rank), job_tag, MPI_COMM_WORLD,
+                      &given.sent);
     }
 
     bool take_any()

@@ -173,7 +173,8 @@ std::vector<Span> solids_in(Span given)
         }
     }
     const bool is_cell = out.size() == 1 && at == given.size();
-    const bool is_job = out.size() == 2 && at == from && at + 2 == given.size() && given[at] == 6 && given[at + 1] >= 1 && given[at + 1] <= 3;
+    const bool ends_a_job = out.size() == 2 && at == from && at + 2 == given.size();
+    const bool is_job = ends_a_job && given[at] == 6 && given[at + 1] >= 1 && given[at + 1] <= 3;
     return given.size() <= 32768 && (is_cell || is_job) ? out : std::vector<Span>{};
 }
 
@@ -278,7 +279,8 @@ void print_balance(const Words &w, Bytes job, double volume, double first, doubl
     const double taken = gives_bodies(w) ? volume_of(solid::bodies_of(answer)) : volume_of(solid::cells_of(answer));
     const double left = operation == unite ? first + second - taken : first - taken;
     std::printf("%s volume %s\n", name, surface::decimal(taken).c_str());
-    std::printf("balance %s: volume - (first%s - %s)\n", surface::decimal(volume - left).c_str(), operation == unite ? " + second" : "", name);
+    const char *const both = operation == unite ? " + second" : "";
+    std::printf("balance %s: volume - (first%s - %s)\n", surface::decimal(volume - left).c_str(), both, name);
 }
 
 template <class Part>

@@ -1,6 +1,6 @@
-// What viewers open: an answer as polygons, written as OBJ or as legacy VTK. A facet is written whole, with all its corners: two facets that
-// share an edge share it in the file too, so that a closed body is closed there. In triangles it may be open, since the mesh of a facet
-// passes over a straight corner that its neighbour keeps.
+// What viewers open: an answer as polygons, written as OBJ or as legacy VTK. A facet is written whole, with all its corners: two facets
+// that share an edge share it in the file too, so that a closed body is closed there. In triangles it may be open, since the mesh of a
+// facet passes over a straight corner that its neighbour keeps.
 #ifndef RUMOSAYWE_EXAMPLES_SURFACE_HPP
 #define RUMOSAYWE_EXAMPLES_SURFACE_HPP
 

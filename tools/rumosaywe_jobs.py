@@ -100,7 +100,9 @@ def subtract(file, whole):
 
     def less(name, place, q):
         out = tuple(_less(x, int(w)) for x, w in zip(q, whole))
-        inexact.extend(f"{name}, point {place}: {'xyz'[k]} {decimal(q[k])} - {int(whole[k])} is no double" for k in range(3) if out[k] is None)
+        for k in range(3):
+            if out[k] is None:
+                inexact.append(f"{name}, point {place}: {'xyz'[k]} {decimal(q[k])} - {int(whole[k])} is no double")
         return out
 
     moved = _with_points(file, less)
@@ -138,8 +140,8 @@ def _counts(name, solid):
 
 
 def remarks(file):
-    """What the library refuses at a glance, each with its number: bytes (1), tolerances and coordinates (2), counts (3), places (4). An empty
-    list is no promise: the program `solid check` makes the whole check."""
+    """What the library refuses at a glance, each with its number: bytes (1), tolerances and coordinates (2), counts (3), places (4). An
+    empty list is no promise: the program `solid check` makes the whole check."""
     out = []
     size = len(write(file))
     if size > MOST_BYTES:
@@ -340,7 +342,7 @@ def _hex_value(sign, whole, part, power, text):
 
 
 def number(text):
-    """The double that a word means: a decimal, rounded to the nearest one; a hex float, exactly one; inf, -inf, nan or nan: and its bits."""
+    """The double that a word means: a decimal, rounded to the nearest one; a hex float, exactly one; inf, nan, or nan: and its bits."""
     if text in ("inf", "+inf", "-inf", "nan"):
         return float(text)
     if re.fullmatch("nan:[0-9a-f]{16}", text):
@@ -386,7 +388,7 @@ def from_text(text):
     records = []
     lines = text.split("\n")
     for i, line in enumerate(lines, 1):
-        words = line.split("#", 1)[0].split()
+        words = [word for word in re.split("[ \t\r]", line.split("#", 1)[0]) if word]
         if not words:
             continue
         try:

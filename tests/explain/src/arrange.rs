@@ -208,9 +208,14 @@ impl Ground<'_> {
             outward += usize::from(sign == Sign::Positive);
             require(outward <= 1, 22, || words)?;
         }
-        require(outward > 0, 23, || {
-            format!("{} facets, none outward", faces.len())
-        })
+        let first = || faces.first().map(|f| self.facet(points, f));
+        let none = || {
+            format!(
+                "no shell outward; its first: {}",
+                first().unwrap_or_default()
+            )
+        };
+        require(outward > 0, 23, none)
     }
 
     /// Which facets of a body share an edge.
