@@ -172,9 +172,9 @@ std::vector<Span> solids_in(Span given)
             from = at;
         }
     }
-    const bool is_cell = out.size() == 1 && at == given.size();
-    const bool ends_a_job = out.size() == 2 && at == from && at + 2 == given.size();
-    const bool is_job = ends_a_job && given[at] == 6 && given[at + 1] >= 1 && given[at + 1] <= 3;
+    const Span rest = given.subspan(std::min(from, given.size()));
+    const bool is_cell = out.size() == 1 && rest.empty();
+    const bool is_job = out.size() == 2 && rest.size() == 2 && rest[0] == 6 && rest[1] >= 1 && rest[1] <= 3;
     return given.size() <= 32768 && (is_cell || is_job) ? out : std::vector<Span>{};
 }
 
