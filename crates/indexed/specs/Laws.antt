@@ -19,11 +19,12 @@ use Rattle.space.specs.declared.Precision.{Precision}
 use Rattle.space.specs.declared.Closeness.{Closeness}
 use Rattle.space.specs.declared.Closeness.the-variants.{Near, Apart, Refused}
 use Rattle.space.specs.Near.{nearOf}
+use Rattle.space.specs.Far.{reachOf}
 use Rattle.space.specs.Shapes.{Face, Cell, Solid, corners}
-use Rattle.polygon.specs.Memory.{floats, floatsOf, pointAt, pointsAt}
-use Rattle.polygon.specs.MemoryLaws.{length-pointsAt}
+use Rattle.polygon.specs.Memory.{floats, floatsOf, pointAt, pointsAt, farAt}
+use Rattle.polygon.specs.MemoryLaws.{length-pointsAt, pass-over}
 use Rattle.room.specs.Rooms.{Within, cellAt, faceAt, countsAt, cellCounts}
-use Rattle.lists.specs.Walks.{Numbered, numbered}
+use Rattle.lists.specs.Walks.{Numbered, numbered, Stops}
 use Rattle.room.specs.Numbered.{next-numbered, numbered-done}
 use Rattle.room.specs.Stores.{sets-over}
 use Rattle.room.specs.Laws.{sets-append, sets-point, points-more, points-stored, next-point, points-done, next-count, counts-done, cell-next, cell-none, within-small, within-rest, within-le, corners-cons, length-floatsOf, corners-none}
@@ -86,6 +87,9 @@ pub record Searched (t : Precision) (q : Point3) (s : List Float) (m i : ℕ) : 
   pub upto : i ≤ m
   pub rest : placeIn t q i (drop i (pointsAt s 0 m)) ≡ placeIn t q 0 (pointsAt s 0 m)
 
+pub searched-start : {t : Precision} {q : Point3} {s : List Float} {m : ℕ} → Searched t q s m 0
+searched-start = record { upto = omega arith; rest = refl }
+
 module _ {t : Precision} {q : Point3} {s : List Float} {m i : ℕ} (I : Searched t q s m i) where
   onward : i < m → placeIn t q i (pointAt s (0 + 3 * i) ∷ drop (i + 1) (pointsAt s 0 m)) ≡ placeIn t q 0 (pointsAt s 0 m)
   onward h = rw (next-point s 0 m i h) at (I .rest)
@@ -105,6 +109,10 @@ module _ {t : Precision} {q : Point3} {s : List Float} {m i : ℕ} (I : Searched
   pub searched-end : m ≤ i → placeIn t q 0 (pointsAt s 0 m) ≡ ok i
   unfolding placeIn
   searched-end h = sym (rw (points-done s 0 m i h) at (I .rest))
+
+-- those that differ by enough are apart, so nothing is found among them
+pub searched-pass : {t : Precision} {q : Point3} {s : List Float} {m i : ℕ} → Searched t q s m i → (g : Float) → g ≡ reachOf t → {r : ℕ} → Stops (farAt g q s) m i r → Searched t q s m r
+searched-pass {t} {q} {s} {m} I g e S = pass-over (Searched t q s m) t g q s S e (λ x h a J. searched-apart J h refl a) I
 
 -- ---- the one point near another
 
@@ -136,6 +144,10 @@ module _ {t : Precision} {q : Point3} {s : List Float} {m h i : ℕ} (I : Meetin
 
   pub meeting-end : m ≤ i → onlyIn t q (pointsAt s 0 m) ≡ ok h
   meeting-end k = sym (I .rest) ∙ ap (walk (meet t q m) h) (numbered-done s m i k) ∙ walk-end (meet t q m) h
+
+pub meeting-pass : {t : Precision} {q : Point3} {s : List Float} {m h i : ℕ} → Meeting t q s m h i → (g : Float) → g ≡ reachOf t → {r : ℕ} → Stops (farAt g q s) m i r → Meeting t q s m h r
+unfolding met
+meeting-pass {t} {q} {s} {m} {h} I g e S = pass-over (Meeting t q s m h) t g q s S e (λ x k a J. meeting-step J Apart (pointAt s (3 * x)) h k refl (sym a) refl) I
 
 -- the search that was asked for
 pub search-first : (k : Pick) (t : Precision) (q : Point3) (l : List Point3) → k ≡ First → placeIn t q 0 l ≡ searchBy k t q l

@@ -28,7 +28,8 @@ fn place_of(t: Precision, q: Point3, points: &[f64], m: usize) -> Counted
     requires { ⌜ 3 * m ≤ length (now points) ⌝ }
     ensures { λ r. ⌜ counted r ≡ placeIn t q 0 (pointsAt (now (points .entry)) 0 m) ⌝ }
 {
-    let mut i = 0;
+    let g = space::reach_of(t);
+    let mut i = polygon::pass(g, q, points, m, 0);
     while i < m {
         let p = polygon::get_point(points, 3 * i);
         let near = space::near(t, q, p);
@@ -41,7 +42,7 @@ fn place_of(t: Precision, q: Point3, points: &[f64], m: usize) -> Counted
             }
             Closeness::Apart => {}
         }
-        i += 1;
+        i = polygon::pass(g, q, points, m, i + 1);
     }
     Counted::Made(i)
 }
@@ -72,8 +73,9 @@ fn only_place(t: Precision, q: Point3, points: &[f64], m: usize) -> Counted
     requires { ⌜ 3 * m ≤ length (now points) ⌝ }
     ensures { λ r. ⌜ counted r ≡ onlyIn t q (pointsAt (now (points .entry)) 0 m) ⌝ }
 {
+    let g = space::reach_of(t);
     let mut h = m;
-    let mut i = 0;
+    let mut i = polygon::pass(g, q, points, m, 0);
     while i < m {
         let p = polygon::get_point(points, 3 * i);
         let step = met(space::near(t, q, p), m, h, i);
@@ -81,7 +83,7 @@ fn only_place(t: Precision, q: Point3, points: &[f64], m: usize) -> Counted
             return step;
         };
         h = e;
-        i += 1;
+        i = polygon::pass(g, q, points, m, i + 1);
     }
     Counted::Made(h)
 }

@@ -1,5 +1,5 @@
 -- Laws of walks over lists, in the words of a loop that counts i up to n.
-use mathlib.Core.Path.{_≡_, refl, sym, ap, _∙_}
+use mathlib.Core.Path.{_≡_, refl, sym, ap, _∙_, subst}
 use mathlib.Core.Bool.{Bool, true, false, cond}
 use mathlib.Core.List.{List, [], _∷_, _++_, append-assoc, map}
 use Prim.Native.Nat.{ℕ, zero, suc, _+_, _-_, _%_, _≤_, _<_}
@@ -9,7 +9,7 @@ use native.Mathlib.Decide.{decLt}
 use native.Mathlib.Numerals.{add-one}
 use lib.ListN.{length, take, drop, getD, set, replicate, length-take, length-append, length-map, drop-of-length-le}
 use lib.Seq.{drop-cons, getD-take, length-take-le, set-at, sets, sets-eq, take-at}
-use Rattle.lists.specs.Walks.{Pair, nextOr, pairsTo, cyclic}
+use Rattle.lists.specs.Walks.{Pair, nextOr, pairsTo, cyclic, Run, Stops}
 
 pub cond-yes {ℓ} : {A : Type ℓ} {b : Bool} {x : A} (y : A) → b ≡ true → x ≡ cond b x y
 cond-yes y e = rw e refl
@@ -26,6 +26,48 @@ next l n i d h k =
 
 pub done {ℓ} : {A : Type ℓ} (l : List A) (n i : ℕ) → n ≤ i → drop i (take n l) ≡ []
 done l n i h = let k : length (take n l) ≤ i = omega (arith, length-take n l) in drop-of-length-le (take n l) k
+
+-- ---- places at which a test holds, counted through
+
+module _ {f : ℕ → Bool} {n i : ℕ} where
+  pub run-start : i ≤ n → Run f n i i
+  run-start h = record { from = omega arith; upto = h; each = λ x k l. absurd (clash i x k l) }
+    where
+      clash : (i x : ℕ) → i ≤ x → x < i → ⊥
+      clash i x k l = omega arith
+
+  module _ {r : ℕ} (R : Run f n i r) where
+    pub run-next : r < n → f r ≡ true → Run f n i (r + 1)
+    run-next h e = record { from = omega (arith, R .from); upto = omega arith; each = λ x k l. elim (decLt x r) [ yes w ↦ R .each x k w | no w ↦ ap f (last x r l w) ∙ e ] }
+      where
+        last : (x r : ℕ) → x < r + 1 → (x < r → ⊥) → x ≡ r
+        last x r l w = omega arith
+
+    pub run-stops : f r ≡ false → Stops f n i r
+    run-stops e = record { run = R; stop = λ h. e }
+
+    pub run-ends : n ≤ r → Stops f n i r
+    run-ends h = record { run = R; stop = λ k. absurd (clash n r h k) }
+      where
+        clash : (n r : ℕ) → n ≤ r → r < n → ⊥
+        clash n r h k = omega arith
+
+    -- what each of them keeps holds behind them
+    pub run-over : (P : ℕ → Type 0) → ((x : ℕ) → x < n → f x ≡ true → P x → P (x + 1)) → P i → P r
+    run-over P step p = subst P (back i r (R .from)) (go (r - i) (omega (arith, R .from)))
+      where
+        back : (i r : ℕ) → i ≤ r → i + (r - i) ≡ r
+        back i r h = omega arith
+
+        none : (i : ℕ) → i ≡ i + 0
+        none i = omega arith
+
+        more : (i k : ℕ) → i + k + 1 ≡ i + suc k
+        more i k = omega arith
+
+        go : (k : ℕ) → i + k ≤ r → P (i + k)
+        go zero h = subst P (none i) p
+        go (suc k) h = subst P (more i k) (step (i + k) (omega (arith, R .upto)) (R .each (i + k) (omega arith) (omega arith)) (go k (omega arith)))
 
 -- ---- one more element before the padding of an array
 

@@ -1,5 +1,6 @@
 -- Walks over lists that the definitions of several layers are made of. Definitions only.
-use Prim.Native.Nat.{ℕ, zero, suc, _+_}
+use mathlib.Core.Path.{_≡_}
+use Prim.Native.Nat.{ℕ, zero, suc, _+_, _≤_, _<_}
 use mathlib.Core.Bool.{Bool, true, false, _&&_}
 use mathlib.Core.List.{List, [], _∷_}
 
@@ -34,3 +35,14 @@ numbered i (x ∷ l) = record { place = i; it = x } ∷ numbered (suc i) l
 unfoldable pub all : {A : Type 0} → (A → Bool) → Bool → List A → Bool
 all f b [] = b
 all f b (x ∷ l) = all f (b && f x) l
+
+-- a test holds at each place from i up to r, of n
+pub record Run (f : ℕ → Bool) (n i r : ℕ) : Type 0 where
+  pub from : i ≤ r
+  pub upto : r ≤ n
+  pub each : (x : ℕ) → i ≤ x → x < r → f x ≡ true
+
+-- and r is the first place at which it does not, or n
+pub record Stops (f : ℕ → Bool) (n i r : ℕ) : Type 0 where
+  pub run : Run f n i r
+  pub stop : r < n → f r ≡ false

@@ -46,6 +46,13 @@ module _ (t : Precision) (kept : List Point3) (q : Point3) (l : List Point3) whe
   unfolding keepOne keepIf
   keep-refused r e = walk-stop (keepOne t) kept q l r (ap (λ c. keepIf c kept q) e)
 
+-- a point that is apart changes nothing
+pub both-apart : (s : Closeness) → both s Apart ≡ s
+unfolding both
+both-apart Near = refl
+both-apart Apart = refl
+both-apart (Refused r) = refl
+
 -- one turn of a scan, and its end
 pub scan-next : (t : Precision) (q : Point3) (s : Closeness) (r : Point3) (l : List Point3) → scan t q s (r ∷ l) ≡ scan t q (both s (nearOf t q r)) l
 unfolding scan

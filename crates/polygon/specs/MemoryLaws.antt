@@ -1,14 +1,22 @@
 -- Laws of points in a slice of f64.
-use mathlib.Core.Path.{_≡_, refl, ap, _∙_}
+use mathlib.Core.Path.{_≡_, refl, sym, ap, _∙_}
+use mathlib.Core.Bool.{Bool}
 use mathlib.Core.List.{List, [], _∷_, _++_}
 use Prim.Native.Nat.{ℕ, zero, suc, _+_, _-_, _*_, _<_, _≤_}
 use native.Mathlib.Omega.{arith}
 use native.Mathlib.Numerals.{add-one, add-two}
 use lib.ListN.{length, getD, set, length-set}
 use lib.Seq.{sets, getD-set-same, getD-set-other}
-use lib.Ieee.{Float, nan}
+use lib.Ieee.{Float, nan, binary64, sub}
+use Rattle.lists.specs.Walks.{Stops}
+use Rattle.lists.specs.Laws.{run-over}
 use Rattle.space.specs.declared.Point3.{Point3}
-use Rattle.polygon.specs.Memory.{floats, pointAt, pointsAt}
+use Rattle.space.specs.declared.Precision.{Precision}
+use Rattle.space.specs.declared.Closeness.the-variants.{Apart}
+use Rattle.space.specs.Near.{nearOf}
+use Rattle.space.specs.Far.{isFar, reachOf}
+use Rattle.space.proofs.Far.{reach-apart}
+use Rattle.polygon.specs.Memory.{floats, pointAt, pointsAt, farAt}
 
 -- a point is its three floats
 pub point-same : (s : List Float) (i : ℕ) (p : Point3) → getD s i nan ≡ p .x → getD s (i + 1) nan ≡ p .y → getD s (i + 2) nan ≡ p .z → pointAt s i ≡ p
@@ -83,3 +91,15 @@ module _ (s : List Float) where
   points-done n i at h =
       let e : n - i ≡ 0 = omega arith in
       ap (pointsAt s at) e
+
+-- ---- points that differ by enough
+
+-- in the code's words: a point taken out and tested
+pub far-here : (g : Float) (q : Point3) (s : List Float) (k : ℕ) (p : Point3) (v b : Bool) → p ≡ pointAt s (3 * k) → v ≡ isFar g (sub binary64 (q .x) (p .x)) (sub binary64 (q .y) (p .y)) (sub binary64 (q .z) (p .z)) → v ≡ b → farAt g q s k ≡ b
+unfolding farAt
+far-here g q s k p v b e f h = ap (λ z. isFar g (sub binary64 (q .x) (z .x)) (sub binary64 (q .y) (z .y)) (sub binary64 (q .z) (z .z))) (sym e) ∙ sym f ∙ h
+
+-- they are apart, so whatever a point that is apart keeps holds behind them
+pub pass-over : (P : ℕ → Type 0) (t : Precision) (g : Float) (q : Point3) (s : List Float) {m i r : ℕ} → Stops (farAt g q s) m i r → g ≡ reachOf t → ((x : ℕ) → x < m → nearOf t q (pointAt s (3 * x)) ≡ Apart → P x → P (x + 1)) → P i → P r
+unfolding farAt
+pass-over P t g q s S e step = run-over (S .run) P (λ x h f. step x h (reach-apart t g q (pointAt s (3 * x)) e f))

@@ -1,19 +1,26 @@
 use borrow.Author.Needs.{needs}
 use mathlib.Core.Path.{sym, ap, _∙_}
 use Prim.Native.Nat.{_-_}
+use native.Mathlib.Omega.{arith}
 use Rattle.indexed.specs.Stored.{counted}
-use Rattle.indexed.specs.Laws.{Meeting, meeting-start, meeting-step, meeting-stop, meeting-end}
+use Rattle.indexed.specs.Laws.{Meeting, meeting-start, meeting-step, meeting-pass, meeting-stop, meeting-end}
 use Rattle.indexed.proofs.only_place.Statement.{statement}
 use Rattle.indexed.proofs.only_place.Tie as tie
 
 abbrev Inv-loop : tie.InvT-loop
-Inv-loop t q points m h₀ i₀ h i = Meeting t q points m h i
+Inv-loop t q points m g h₀ i₀ h i = Meeting t q points m h i
 
 abbrev μ-loop : tie.MeasureT-loop
-μ-loop t q points m h₀ i₀ h i = m - i
+μ-loop t q points m g h₀ i₀ h i = m - i
+
+reach-of-requires : tie.Need-reach-of-requires Inv-loop μ-loop
+reach-of-requires c κs = search needs
+
+pass-requires : tie.Need-pass-requires Inv-loop μ-loop
+pass-requires c κs = search needs
 
 loop-holds : tie.Need-loop-holds Inv-loop μ-loop
-loop-holds c = meeting-start _ _ _ _
+loop-holds c = meeting-pass (meeting-start _ _ _ _) _ (c .before .reach-of .ensures) (c .pass .ensures)
 
 mul-get-point : tie.Need-mul-get-point Inv-loop μ-loop
 mul-get-point c = search needs
@@ -41,19 +48,31 @@ returns c =
     let G = N .before in
     ap counted (c .enum-told .given .1) ∙ sym (meeting-stop (G .before .before .loop .inv) _ _ _ (G .before .loop-test .taken) (G .get-point .ensures) (N .near .ensures) (sym (M .met .ensures) ∙ ap counted (c .enum-told .given .1)))
 
-add-i : tie.Need-add-i Inv-loop μ-loop
-add-i c = search needs
+add-pass : tie.Need-add-pass Inv-loop μ-loop
+add-pass c =
+    let T = c .before .before .before .before .before .before in
+    let E = T .before .before .before .before .before in
+    record { fits = omega (arith, T .loop-test .taken, E .fits .m .fits) }
+
+pass-requires-2 : tie.Need-pass-requires-2 Inv-loop μ-loop
+pass-requires-2 c κs =
+    let T = c .before .before .before .before .before .before in
+    let E = T .before .before .before .before .before in
+    (E .pre, omega (arith, T .loop-test .taken))
 
 loop-less : tie.Need-loop-less Inv-loop μ-loop
-loop-less c = search needs
+loop-less c =
+    let T = c .before .before .before .before .before .before .before in
+    omega (arith, c .pass2 .ensures .run .from, T .loop-test .taken)
 
 loop-again : tie.Need-loop-again Inv-loop μ-loop
 unfolding counted
 loop-again c =
-    let M = c .before .before .before in
+    let M = c .before .before .before .before in
     let N = M .before in
     let G = N .before in
-    meeting-step (G .before .before .loop .inv) _ _ _ (G .before .loop-test .taken) (G .get-point .ensures) (N .near .ensures) (sym (M .met .ensures) ∙ ap counted (c .before .step .given .1))
+    let L = G .before .before in
+    meeting-pass (meeting-step (L .loop .inv) _ _ _ (G .before .loop-test .taken) (G .get-point .ensures) (N .near .ensures) (sym (M .met .ensures) ∙ ap counted (c .before .before .step .given .1))) _ (L .before .before .reach-of .ensures) (c .pass2 .ensures)
 
 returns-2 : tie.Need-returns-2 Inv-loop μ-loop
 unfolding counted
@@ -65,6 +84,8 @@ only-place-spec =
     (tie.spec
     Inv-loop
     μ-loop
+    reach-of-requires
+    pass-requires
     loop-holds
     mul-get-point
     get-point-requires
@@ -73,7 +94,8 @@ only-place-spec =
     enum-known-step
     enum-told
     returns
-    add-i
+    add-pass
+    pass-requires-2
     loop-less
     loop-again
     returns-2)

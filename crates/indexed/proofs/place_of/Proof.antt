@@ -1,19 +1,26 @@
 use borrow.Author.Needs.{needs}
-use mathlib.Core.Path.{refl, sym, _∙_}
+use mathlib.Core.Path.{sym, _∙_}
 use Prim.Native.Nat.{_-_}
+use native.Mathlib.Omega.{arith}
 use Rattle.indexed.specs.Stored.{counted}
-use Rattle.indexed.specs.Laws.{Searched, searched-near, searched-refused, searched-apart, searched-end}
+use Rattle.indexed.specs.Laws.{Searched, searched-start, searched-near, searched-refused, searched-apart, searched-pass, searched-end}
 use Rattle.indexed.proofs.place_of.Statement.{statement}
 use Rattle.indexed.proofs.place_of.Tie as tie
 
 abbrev Inv-loop : tie.InvT-loop
-Inv-loop t q points m i₀ i = Searched t q points m i
+Inv-loop t q points m g i₀ i = Searched t q points m i
 
 abbrev μ-loop : tie.MeasureT-loop
-μ-loop t q points m i₀ i = m - i
+μ-loop t q points m g i₀ i = m - i
+
+reach-of-requires : tie.Need-reach-of-requires Inv-loop μ-loop
+reach-of-requires c κs = search needs
+
+pass-requires : tie.Need-pass-requires Inv-loop μ-loop
+pass-requires c κs = search needs
 
 loop-holds : tie.Need-loop-holds Inv-loop μ-loop
-loop-holds c = record { upto = search needs; rest = refl }
+loop-holds c = searched-pass searched-start _ (c .before .reach-of .ensures) (c .pass .ensures)
 
 mul-get-point : tie.Need-mul-get-point Inv-loop μ-loop
 mul-get-point c = search needs
@@ -47,17 +54,20 @@ returns-2 c =
 enum-told-2 : tie.Need-enum-told-2 Inv-loop μ-loop
 enum-told-2 c = search needs
 
-add-i : tie.Need-add-i Inv-loop μ-loop
-add-i c = search needs
+add-pass : tie.Need-add-pass Inv-loop μ-loop
+add-pass c = search needs
+
+pass-requires-2 : tie.Need-pass-requires-2 Inv-loop μ-loop
+pass-requires-2 c κs = search needs
 
 loop-less : tie.Need-loop-less Inv-loop μ-loop
-loop-less c = search needs
+loop-less c = omega (arith, c .pass2 .ensures .run .from)
 
 loop-again : tie.Need-loop-again Inv-loop μ-loop
 loop-again c =
-    let M = c .before in
+    let M = c .before .before in
     let L = M .before .before .before .before in
-    searched-apart (L .loop .inv) (M .before .before .before .loop-test .taken) (M .before .before .get-point .ensures) (sym (M .before .near .ensures) ∙ c .enum-told2 .given .1)
+    searched-pass (searched-apart (L .loop .inv) (M .before .before .before .loop-test .taken) (M .before .before .get-point .ensures) (sym (M .before .near .ensures) ∙ c .before .enum-told2 .given .1)) _ (L .before .before .reach-of .ensures) (c .pass2 .ensures)
 
 returns-3 : tie.Need-returns-3 Inv-loop μ-loop
 unfolding counted
@@ -69,6 +79,8 @@ place-of-spec =
     (tie.spec
     Inv-loop
     μ-loop
+    reach-of-requires
+    pass-requires
     loop-holds
     mul-get-point
     get-point-requires
@@ -78,7 +90,8 @@ place-of-spec =
     enum-known-near
     returns-2
     enum-told-2
-    add-i
+    add-pass
+    pass-requires-2
     loop-less
     loop-again
     returns-3)

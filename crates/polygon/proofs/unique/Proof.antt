@@ -14,22 +14,25 @@ use Rattle.polygon.proofs.unique.Statement.{statement}
 use Rattle.polygon.proofs.unique.Tie as tie
 
 abbrev Inv-loop2 : tie.InvT-loop2
-Inv-loop2 points at n t out m i q s₀ j₀ s j = Scanned t q (out .at) m s j
+Inv-loop2 points at n t g out m i q s₀ j₀ s j = Scanned t q (out .at) m s j
 
 abbrev μ-loop2 : tie.MeasureT-loop2
-μ-loop2 points at n t out m i q s₀ j₀ s j = m - j
+μ-loop2 points at n t g out m i q s₀ j₀ s j = m - j
 
 abbrev Inv-loop : tie.InvT-loop
-Inv-loop points at n t out₀ m₀ i₀ out m i = Kept t (pointsAt points at n) n (out .at) m i
+Inv-loop points at n t g out₀ m₀ i₀ out m i = Kept t (pointsAt points at n) n (out .at) m i
 
 abbrev μ-loop : tie.MeasureT-loop
-μ-loop points at n t out₀ m₀ i₀ out m i = n - i
+μ-loop points at n t g out₀ m₀ i₀ out m i = n - i
+
+reach-of-requires : tie.Need-reach-of-requires Inv-loop2 μ-loop2 Inv-loop μ-loop
+reach-of-requires c κs = search needs
 
 empty-requires : tie.Need-empty-requires Inv-loop2 μ-loop2 Inv-loop μ-loop
 empty-requires c κs = search needs
 
 loop-holds : tie.Need-loop-holds Inv-loop2 μ-loop2 Inv-loop μ-loop
-loop-holds c = let A = c .before .before .args in rw (c .empty .ensures) (points-start (A .t) (A .points .now) (A .at) (A .n) (c .before .before .pre .0))
+loop-holds c = let E = c .before .before .before in let A = E .args in rw (c .empty .ensures) (points-start (A .t) (A .points .now) (A .at) (A .n) (E .pre .0))
 
 mul-get-point : tie.Need-mul-get-point Inv-loop2 μ-loop2 Inv-loop μ-loop
 mul-get-point c = search needs
@@ -49,11 +52,8 @@ mul-r c = search needs
 element-copy-out-r : tie.Need-element-copy-out-r Inv-loop2 μ-loop2 Inv-loop μ-loop
 element-copy-out-r c = search needs
 
-near-requires : tie.Need-near-requires Inv-loop2 μ-loop2 Inv-loop μ-loop
-near-requires c κs = search needs
-
-both-requires : tie.Need-both-requires Inv-loop2 μ-loop2 Inv-loop μ-loop
-both-requires c κs = search needs
+compared-requires : tie.Need-compared-requires Inv-loop2 μ-loop2 Inv-loop μ-loop
+compared-requires c κs = search needs
 
 add-j : tie.Need-add-j Inv-loop2 μ-loop2 Inv-loop μ-loop
 add-j c = search needs
@@ -63,15 +63,15 @@ loop2-less c = search needs
 
 loop2-again : tie.Need-loop2-again Inv-loop2 μ-loop2 Inv-loop μ-loop
 loop2-again c =
-    let J = c .before .before .before .before in
+    let J = c .before .before .before in
     let L = J .before .before .before in
     let I = L .loop .inv in
     let h : L .loop .m ≤ length (L .loop .out .at) = omega (arith, room I, I .few, I .low, I .small) in
-    rw (c .both .ensures, c .before .near .ensures) (scanned-step (J .loop2 .inv) (c .before .before .before .loop2-test .taken) h)
+    rw (c .compared .ensures) (scanned-step (J .loop2 .inv) (c .before .before .loop2-test .taken) h)
 
 -- the point at hand
-here : (c : tie.After-get-point Inv-loop2 μ-loop2 Inv-loop μ-loop) → c .get-point .result ≡ getD (pointsAt (c .before .before .before .before .before .args .points .now) (c .before .before .before .before .before .args .at) (c .before .before .before .before .before .args .n)) (c .before .before .loop .i) nowhere
-here c = let A = c .before .before .before .before .before .args in c .get-point .ensures ∙ point-here (A .points .now) (A .at) (A .n) (c .before .before .loop .i) (c .before .loop-test .taken)
+here : (c : tie.After-get-point Inv-loop2 μ-loop2 Inv-loop μ-loop) → c .get-point .result ≡ getD (pointsAt (c .before .before .before .before .before .before .args .points .now) (c .before .before .before .before .before .before .args .at) (c .before .before .before .before .before .before .args .n)) (c .before .before .loop .i) nowhere
+here c = let A = c .before .before .before .before .before .before .args in c .get-point .ensures ∙ point-here (A .points .now) (A .at) (A .n) (c .before .before .loop .i) (c .before .loop-test .taken)
 
 enum-known-s : tie.Need-enum-known-s Inv-loop2 μ-loop2 Inv-loop μ-loop
 enum-known-s c = search needs
@@ -86,7 +86,7 @@ returns c =
     let J = K .before in
     let G = J .before in
     let L = G .before .before in
-    let A = L .before .before .before .args in
+    let A = L .before .before .before .before .args in
     let told : J .loop2 .s ≡ Refused (c .before .before .s .given .0 .0) = cc in
     let e = kept-refused (L .loop .inv) (G .get-point .result) (here G) (G .before .loop-test .taken) (sym told ∙ scanned-end (J .loop2 .inv) (K .loop2-test .left)) in
     let o = c .none .ensures ∙ ap made (sym e ∙ ap (unique (A .t)) (all-points (A .points .now) (A .at) (A .n))) in
@@ -129,7 +129,7 @@ returns-2 : tie.Need-returns-2 Inv-loop2 μ-loop2 Inv-loop μ-loop
 returns-2 c =
     let L = c .before in
     let I = L .loop .inv in
-    let A = L .before .before .before .args in
+    let A = L .before .before .before .before .args in
     (kept-end I (c .loop-test .left) ∙ ap (λ l. made (unique (A .t) l)) (all-points (A .points .now) (A .at) (A .n)), omega (arith, I .few, I .low, I .small))
 
 pub unique-spec : {M : Type 1} → statement M
@@ -140,6 +140,7 @@ unique-spec =
     μ-loop2
     Inv-loop
     μ-loop
+    reach-of-requires
     empty-requires
     loop-holds
     mul-get-point
@@ -148,8 +149,7 @@ unique-spec =
     loop2-holds
     mul-r
     element-copy-out-r
-    near-requires
-    both-requires
+    compared-requires
     add-j
     loop2-less
     loop2-again
