@@ -79,14 +79,14 @@ SOLID_CALL uint64_t solid_version(void)
 /* The work slices of each call in their order. F(name, each, more) is a slice of double, U(name, each, more) one of
  * uint64_t; for a room of n corners it has each * n + more numbers, or more. */
 #define SOLID_FUSE_WORK(F, U)                                                                                               \
-    F(rest, 3, 1920) F(spare, 10, 1536) F(dst, 10, 1536) U(held, 1, 128) U(slots, 1, 128) U(counts, 1, 128) U(sizes, 1, 1)    \
+    F(rest, 3, 1984) F(spare, 11, 1664) F(dst, 11, 1664) U(held, 1, 128) U(slots, 1, 128) U(counts, 1, 128) U(sizes, 1, 1)    \
     U(seats, 1, 1) U(lengths, 1, 0) U(owners, 1, 0) U(cells, 1, 0) U(cuts, 1, 1) U(runs, 3, 0) U(keys, 2, 0) U(begins, 1, 1)  \
     U(ord, 1, 0) U(ends, 1, 0) U(marks, 1, 1) U(out, 1, 0) U(many, 1, 0) U(shells, 1, 0)
 #define SOLID_CELLS_WORK(F, U)                                                                                              \
-    F(rest, 3, 1920) F(spare, 3, 1536) F(dst, 10, 1536) U(held, 1, 128) U(slots, 1, 128) U(counts, 1, 128) U(sizes, 1, 1)     \
+    F(rest, 3, 1984) F(spare, 3, 1664) F(dst, 11, 1664) U(held, 1, 128) U(slots, 1, 128) U(counts, 1, 128) U(sizes, 1, 1)     \
     U(order, 2, 1024) U(chain, 2, 2048) U(head, 1, 0) U(seen, 1, 0) U(work, 1, 0) U(nodes, 1, 0) U(cuts, 1, 1)
-#define SOLID_OFFSET_WORK(F, U) F(s, 0, 3840) U(counts, 0, 128) F(dst, 0, 1920) U(sizes, 0, 64)
-#define SOLID_HOLLOW_WORK(F, U) F(s, 0, 3840) U(counts, 0, 128) F(dst, 0, 1920) U(sizes, 0, 64)
+#define SOLID_OFFSET_WORK(F, U) F(s, 0, 3968) U(counts, 0, 128) F(dst, 0, 1984) U(sizes, 0, 64)
+#define SOLID_HOLLOW_WORK(F, U) F(s, 0, 3968) U(counts, 0, 128) F(dst, 0, 1984) U(sizes, 0, 64)
 
 #define SOLID_F64_SLICE(name, each, more) double *name, size_t name##_n,
 #define SOLID_U64_SLICE(name, each, more) uint64_t *name, size_t name##_n,

@@ -177,14 +177,14 @@ length-facet f =
     )
 
 pub facet-stored : (out a b c : List ℕ) (at : ℕ) (s : List Float) (from n : ℕ) (w : Plane) → w ≡ planeAt s from → a ≡ sets out at (planeBytes w) → b ≡ sets a (at + 96) (digits 4 n) →
-    c ≡ sets b (at + 100) (row pointBytes (pointsAt s (from + 12) n)) → c ≡ sets out at (facetAnswer (faceAt s from n))
+    c ≡ sets b (at + 100) (row pointBytes (pointsAt s (from + 13) n)) → c ≡ sets out at (facetAnswer (faceAt s from n))
 unfolding facetAnswer
 facet-stored out a b c at s from n w e p q r =
-    let l = pointsAt s (from + 12) n in
+    let l = pointsAt s (from + 13) n in
     let k : length (planeBytes (planeAt s from) ++ digits 4 n) ≡ 100 = omega (arith, length-append (planeBytes (planeAt s from)) (digits 4 n), length-plane (planeAt s from), length-count n) in
     let x = then-sets out a b at (at + 96) (planeBytes (planeAt s from)) (digits 4 n) (p ∙ ap (λ v. sets out at (planeBytes v)) e) q (omega (arith, length-plane (planeAt s from))) in
     then-sets out b c at (at + 100) (planeBytes (planeAt s from) ++ digits 4 n) (row pointBytes l) x r (omega (arith, k))
-    ∙ ap (sets out at) (append-assoc (planeBytes (planeAt s from)) (digits 4 n) (row pointBytes l) ∙ ap (λ m. planeBytes (planeAt s from) ++ (digits 4 m ++ row pointBytes l)) (sym (length-pointsAt s (from + 12) n)))
+    ∙ ap (sets out at) (append-assoc (planeBytes (planeAt s from)) (digits 4 n) (row pointBytes l) ∙ ap (λ m. planeBytes (planeAt s from) ++ (digits 4 m ++ row pointBytes l)) (sym (length-pointsAt s (from + 13) n)))
 
 -- ---- all facets of a room
 
@@ -203,7 +203,7 @@ module _ {s : List Float} {from : ℕ} {sizes : List ℕ} {j faces : ℕ} {out�
   size = getD sizes (j + i) 0
 
   abbrev rest : Cell
-  rest = cellAt s (o + 12 + 3 * getD sizes (j + i) 0) (drop (i + 1) (countsAt sizes j faces))
+  rest = cellAt s (o + 13 + 3 * getD sizes (j + i) 0) (drop (i + 1) (countsAt sizes j faces))
 
   abbrev facet : List ℕ
   facet = facetAnswer (faceAt s o (getD sizes (j + i) 0))
@@ -211,10 +211,10 @@ module _ {s : List Float} {from : ℕ} {sizes : List ℕ} {j faces : ℕ} {out�
   ahead : drop i (countsAt sizes j faces) ≡ getD sizes (j + i) 0 ∷ drop (i + 1) (countsAt sizes j faces)
   ahead = next-count sizes j faces i h few
 
-  left-after : Within (drop (i + 1) (countsAt sizes j faces)) (o + 12 + 3 * getD sizes (j + i) 0) (length s)
+  left-after : Within (drop (i + 1) (countsAt sizes j faces)) (o + 13 + 3 * getD sizes (j + i) 0) (length s)
   left-after = within-rest _ _ _ _ (subst (λ ns. Within ns o (length s)) ahead (v .left))
 
-  pub facet-fits : o + 12 + 3 * getD sizes (j + i) 0 ≤ length s
+  pub facet-fits : o + 13 + 3 * getD sizes (j + i) 0 ≤ length s
   facet-fits = within-le _ _ _ left-after
 
   bytes : row facetAnswer (cellAt s o (drop i (countsAt sizes j faces))) ≡ facet ++ row facetAnswer rest
@@ -222,16 +222,16 @@ module _ {s : List Float} {from : ℕ} {sizes : List ℕ} {j faces : ℕ} {out�
   bytes = ap (λ ns. row facetAnswer (cellAt s o ns)) ahead ∙ ap (row facetAnswer) (cell-next s o (getD sizes (j + i) 0) (drop (i + 1) (countsAt sizes j faces)))
 
   facet-length : length facet ≡ 100 + 24 * getD sizes (j + i) 0
-  facet-length = length-facet (faceAt s o (getD sizes (j + i) 0)) ∙ ap (λ m. 100 + 24 * m) (length-pointsAt s (o + 12) (getD sizes (j + i) 0))
+  facet-length = length-facet (faceAt s o (getD sizes (j + i) 0)) ∙ ap (λ m. 100 + 24 * m) (length-pointsAt s (o + 13) (getD sizes (j + i) 0))
 
   pub facet-inside : at + length (row facetAnswer (cellAt s from (countsAt sizes j faces))) ≤ length out₀ → p + 100 + 24 * getD sizes (j + i) 0 ≤ length out
   facet-inside b = omega (arith, b, v .place, v .same, ap length bytes, length-append facet (row facetAnswer rest), facet-length)
 
-  pub facets-turn : (out′ : List ℕ) → out′ ≡ sets out p facet → FacetRow s from sizes j faces out₀ at out′ (o + (12 + 3 * getD sizes (j + i) 0)) (p + (100 + 24 * getD sizes (j + i) 0)) (i + 1)
+  pub facets-turn : (out′ : List ℕ) → out′ ≡ sets out p facet → FacetRow s from sizes j faces out₀ at out′ (o + (13 + 3 * getD sizes (j + i) 0)) (p + (100 + 24 * getD sizes (j + i) 0)) (i + 1)
   facets-turn out′ w =
-      let e : o + (12 + 3 * getD sizes (j + i) 0) ≡ o + 12 + 3 * getD sizes (j + i) 0 = omega arith in
+      let e : o + (13 + 3 * getD sizes (j + i) 0) ≡ o + 13 + 3 * getD sizes (j + i) 0 = omega arith in
       let g : p + (100 + 24 * getD sizes (j + i) 0) ≡ p + length facet = omega (arith, facet-length) in
-      let r : cellAt s (o + (12 + 3 * getD sizes (j + i) 0)) (drop (i + 1) (countsAt sizes j faces)) ≡ rest = ap (λ x. cellAt s x (drop (i + 1) (countsAt sizes j faces))) e in
+      let r : cellAt s (o + (13 + 3 * getD sizes (j + i) 0)) (drop (i + 1) (countsAt sizes j faces)) ≡ rest = ap (λ x. cellAt s x (drop (i + 1) (countsAt sizes j faces))) e in
       record {
         within = omega arith;
         same = ap length w ∙ length-sets out p facet ∙ v .same;

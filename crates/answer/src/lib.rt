@@ -7,7 +7,7 @@ ghost use lib.ListN.{length, set};
 ghost use lib.Seq.{sets};
 ghost use Rattle.words.specs.Little.{digits};
 ghost use Rattle.polygon.specs.Memory.{pointsAt};
-ghost use Rattle.room.specs.Rooms.{countsAt, faceAt, cellAt, Within};
+ghost use Rattle.room.specs.Rooms.{planeSize, countsAt, faceAt, cellAt, Within};
 ghost use Rattle.job.specs.Written.{pointBytes};
 ghost use Rattle.solids.specs.Frames.{facesAt};
 ghost use Rattle.writer.specs.Rows.{row};
@@ -114,13 +114,13 @@ pub fn put_plane(out: &mut [u8], at: usize, w: Plane)
 
 // The facet of n corners that stands in a room at a place.
 fn put_facet(s: &[f64], from: usize, n: usize, out: &mut [u8], at: usize)
-    requires { ⌜ (from + 12 + 3 * n ≤ length (now s)) × (at + 100 + 24 * n ≤ length (now out)) ⌝ }
+    requires { ⌜ (from + planeSize + 3 * n ≤ length (now s)) × (at + 100 + 24 * n ≤ length (now out)) ⌝ }
     ensures { λ _. ⌜ now (out .exit) ≡ sets (now (out .entry)) at (facetAnswer (faceAt (now (s .entry)) from n)) ⌝ }
 {
     let w = room::get_plane(s, from);
     put_plane(out, at, w);
     words::put_count(out, at + 96, n as u64);
-    put_points(s, from + 12, n, out, at + 100);
+    put_points(s, from + room::PLANE, n, out, at + 100);
 }
 
 // The facets that stand in a room from a place on; returns the place behind them.
@@ -143,7 +143,7 @@ fn put_facets(
     while i < faces {
         let n = sizes[j + i] as usize;
         put_facet(s, o, n, out, p);
-        o += 12 + 3 * n;
+        o += room::PLANE + 3 * n;
         p += 100 + 24 * n;
         i += 1;
     }

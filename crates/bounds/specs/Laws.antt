@@ -73,13 +73,13 @@ pub testing-start : (g : Face → Verdict) (src : List Float) (from : ℕ) (ns :
 testing-start g src from ns j faces h = record { ahead = record { upto = omega arith; within = h .within }; rest = refl }
 
 module _ {g : Face → Verdict} {src : List Float} {from : ℕ} {ns : List ℕ} {j faces o i : ℕ} (I : Testing g src from ns j faces o i) (given : Lies src from ns j faces) where
-  pub testing-inside : i < faces → o + 12 + 3 * getD ns (j + i) 0 ≤ length src
+  pub testing-inside : i < faces → o + 13 + 3 * getD ns (j + i) 0 ≤ length src
   testing-inside h = ahead-inside src ns j faces o i (given .listed) h (I .ahead)
 
-  turn : i < faces → eachIn g (faceAt src o (getD ns (j + i) 0) ∷ cellAt src (o + 12 + 3 * getD ns (j + i) 0) (drop (i + 1) (countsAt ns j faces))) ≡ eachIn g (cellAt src from (countsAt ns j faces))
+  turn : i < faces → eachIn g (faceAt src o (getD ns (j + i) 0) ∷ cellAt src (o + 13 + 3 * getD ns (j + i) 0) (drop (i + 1) (countsAt ns j faces))) ≡ eachIn g (cellAt src from (countsAt ns j faces))
   turn h = ap (eachIn g) (sym (ahead-face src ns j faces o i (given .listed) h (I .ahead))) ∙ I .rest
 
-  pub testing-go : i < faces → g (faceAt src o (getD ns (j + i) 0)) ≡ D.Fine → Testing g src from ns j faces (o + 12 + 3 * getD ns (j + i) 0) (i + 1)
+  pub testing-go : i < faces → g (faceAt src o (getD ns (j + i) 0)) ≡ D.Fine → Testing g src from ns j faces (o + 13 + 3 * getD ns (j + i) 0) (i + 1)
   testing-go h e = record { ahead = ahead-next src ns j faces o i (given .listed) h (I .ahead); rest = sym (each-go g _ _ e) ∙ turn h }
 
   pub testing-stop : (r : Refusal) → i < faces → g (faceAt src o (getD ns (j + i) 0)) ≡ D.Refused r → eachIn g (cellAt src from (countsAt ns j faces)) ≡ D.Refused r

@@ -68,7 +68,7 @@ fn point_in(
                 return Verdict::Refused(r);
             }
         }
-        o = o + 12 + 3 * n;
+        o = o + room::PLANE + 3 * n;
         i += 1;
     }
     Verdict::Fine
@@ -127,14 +127,14 @@ pub fn against(
     let mut i = 0;
     while i < n {
         let c = counts[first + i] as usize;
-        let v = points_in(strict, t, src, from, sizes, j, faces, s, o + 12, c);
+        let v = points_in(strict, t, src, from, sizes, j, faces, s, o + room::PLANE, c);
         match v {
             Verdict::Fine => {}
             Verdict::Refused(r) => {
                 return Verdict::Refused(r);
             }
         }
-        o = o + 12 + 3 * c;
+        o = o + room::PLANE + 3 * c;
         i += 1;
     }
     Verdict::Fine

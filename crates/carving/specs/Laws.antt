@@ -48,7 +48,7 @@ module _ (c : Cell) (d : List Float) (n : List ℕ) (h : length (cellFloats c) �
 module _ (t : Precision) (room : ℕ) (w : Plane) (c : Cell) where
   -- what a cut answers fits a room
   pub clip-inside : (p : Clipped) (s : List Float) (at : ℕ) (k : List ℕ) (i : ℕ) (s′ : List Float) (k′ : List ℕ) (d n : ℕ) →
-      Clips (clip t room w c) p s at k i s′ k′ → 3 * room + 1536 ≤ d → 128 ≤ n → Inside d n p
+      Clips (clip t room w c) p s at k i s′ k′ → 3 * room + 1664 ≤ d → 128 ≤ n → Inside d n p
   unfolding told Sized Inside
   clip-inside C.Nothing s at k i s′ k′ d n x ld ln = tt
   clip-inside (C.Part f m) s at k i s′ k′ d n x ld ln =
@@ -58,14 +58,14 @@ module _ (t : Precision) (room : ℕ) (w : Plane) (c : Cell) where
 
   module _ (s : List Float) (k : List ℕ) (s′ : List Float) (k′ : List ℕ) (d : List Float) (n : List ℕ) (a : Wide c) (ls : Place room s k) (ld : Place room d n) where
     part-kept : (f m : ℕ) → Clips (clip t room w c) (C.Part f m) s 0 k 0 s′ k′ →
-        Sits f (sets d 0 (take (12 * f + 3 * m) s′)) (sets n 0 (take f k′)) × (clip t room w c ≡ ok (part (cellAt (sets d 0 (take (12 * f + 3 * m) s′)) 0 (countsAt (sets n 0 (take f k′)) 0 f))))
+        Sits f (sets d 0 (take (13 * f + 3 * m) s′)) (sets n 0 (take f k′)) × (clip t room w c ≡ ok (part (cellAt (sets d 0 (take (13 * f + 3 * m) s′)) 0 (countsAt (sets n 0 (take f k′)) 0 f))))
     unfolding told Sized
     part-kept f m x =
         let b = part-fit t room w c (x .cell) (sym (x .is)) in
         let l = length-cellFloats (x .cell) in
         let i = length-cellCounts (x .cell) in
-        let e1 : take (12 * f + 3 * m) s′ ≡ cellFloats (x .cell) =
-        ap (take (12 * f + 3 * m)) (x .floats) ∙ front-stored (cellFloats (x .cell)) s (12 * f + 3 * m) (omega (arith, l, x .sized .0, x .sized .1)) (omega (arith, l, b .few, b .fit, ls .place)) in
+        let e1 : take (13 * f + 3 * m) s′ ≡ cellFloats (x .cell) =
+        ap (take (13 * f + 3 * m)) (x .floats) ∙ front-stored (cellFloats (x .cell)) s (13 * f + 3 * m) (omega (arith, l, x .sized .0, x .sized .1)) (omega (arith, l, b .few, b .fit, ls .place)) in
         let e2 : take f k′ ≡ cellCounts (x .cell) =
         ap (take f) (x .counts) ∙ front-stored (cellCounts (x .cell)) k f (omega (arith, i, x .sized .0)) (omega (arith, i, b .few, ls .slots)) in
         let h : length (cellFloats (x .cell)) ≤ length d = omega (arith, l, b .few, b .fit, ld .place) in
@@ -82,13 +82,13 @@ module _ (t : Precision) (room : ℕ) (w : Plane) (c : Cell) where
           some = part-some t room w c (x .cell) (sym (x .is));
           few = b .few;
         } in (
-          subst (λ y. Sits y (sets d 0 (take (12 * f + 3 * m) s′)) (sets n 0 (take f k′))) (sym (x .sized .0))
+          subst (λ y. Sits y (sets d 0 (take (13 * f + 3 * m) s′)) (sets n 0 (take f k′))) (sym (x .sized .0))
               (subst (λ y. Sits (length (x .cell)) (sets d 0 y) (sets n 0 (take f k′))) (sym e1)
               (subst (λ y. Sits (length (x .cell)) (sets d 0 (cellFloats (x .cell))) (sets n 0 y)) (sym e2) base)),
           sym (x .is) ∙ ap (λ y. ok (part y)) (sym q)
               ∙ ap (λ y. ok (part (cellAt (sets d 0 (cellFloats (x .cell))) 0 (countsAt (sets n 0 y) 0 (length (x .cell)))))) (sym e2)
               ∙ ap (λ y. ok (part (cellAt (sets d 0 y) 0 (countsAt (sets n 0 (take f k′)) 0 (length (x .cell)))))) (sym e1)
-              ∙ ap (λ y. ok (part (cellAt (sets d 0 (take (12 * f + 3 * m) s′)) 0 (countsAt (sets n 0 (take f k′)) 0 y)))) (sym (x .sized .0)),
+              ∙ ap (λ y. ok (part (cellAt (sets d 0 (take (13 * f + 3 * m) s′)) 0 (countsAt (sets n 0 (take f k′)) 0 y)))) (sym (x .sized .0)),
         )
 
     cut-kept : (p : Clipped) → Clips (clip t room w c) p s 0 k 0 s′ k′ → Kept (keptRest p) (keptFloats p d s′) (keptCounts p n k′) × (restAt (keptRest p) (keptFloats p d s′) (keptCounts p n k′) ≡ clip t room w c)
@@ -142,12 +142,12 @@ unfolding keptRest keptFloats keptCounts
 keep-refused p x d n s k e = record { rest = ap keptRest (sym e); floats = ap (λ y. keptFloats y d s) (sym e); counts = ap (λ y. keptCounts y n k) (sym e) }
 
 pub keep-part : (p : Clipped) (f m : ℕ) (d : List Float) (n : List ℕ) (s : List Float) (k : List ℕ) (d′ : List Float) (n′ : List ℕ) → p ≡ C.Part f m →
-    d′ ≡ sets d 0 (take (12 * f + 3 * m) s) → n′ ≡ sets n 0 (take f k) →
+    d′ ≡ sets d 0 (take (13 * f + 3 * m) s) → n′ ≡ sets n 0 (take f k) →
     Keeps p (record { verdict = Fine; some = true; faces = f }) d n s k d′ n′
 unfolding keptRest keptFloats keptCounts
 keep-part p f m d n s k d′ n′ e ed en = record { rest = ap keptRest (sym e); floats = ed ∙ ap (λ y. keptFloats y d s) (sym e); counts = en ∙ ap (λ y. keptCounts y n k) (sym e) }
 
-pub inside-part : (a b : ℕ) (p : Clipped) (f m : ℕ) → p ≡ C.Part f m → Inside a b p → (12 * f + 3 * m ≤ a) × (f ≤ b)
+pub inside-part : (a b : ℕ) (p : Clipped) (f m : ℕ) → p ≡ C.Part f m → Inside a b p → (13 * f + 3 * m ≤ a) × (f ≤ b)
 unfolding Inside
 inside-part a b p f m e h = subst (Inside a b) e h
 

@@ -47,7 +47,7 @@ pub record Left (g : Part → Outcome Part) (s r : Rest) (d : List Float) (n : L
 
 -- a room has a place for every part that fits
 pub record Place (room : ℕ) (d : List Float) (n : List ℕ) : Type 0 where
-  pub place : 3 * room + 1536 ≤ length d
+  pub place : 3 * room + 1664 ≤ length d
   pub slots : 128 ≤ length n
 
 -- ---- what a cut answers is copied back into the remainder's room
@@ -59,7 +59,7 @@ keptRest (C.Refused r) = record { verdict = Refused r; some = false; faces = 0 }
 
 unfoldable pub keptFloats : Clipped → List Float → List Float → List Float
 keptFloats C.Nothing d s = d
-keptFloats (C.Part faces n) d s = sets d 0 (take (12 * faces + 3 * n) s)
+keptFloats (C.Part faces n) d s = sets d 0 (take (13 * faces + 3 * n) s)
 keptFloats (C.Refused r) d s = d
 
 unfoldable pub keptCounts : Clipped → List ℕ → List ℕ → List ℕ
@@ -75,7 +75,7 @@ pub record Keeps (p : Clipped) (r : Rest) (d : List Float) (n : List ℕ) (s : L
 -- it lies within m floats and k counts
 unfoldable pub Inside : ℕ → ℕ → Clipped → Type 0
 Inside m k C.Nothing = Unit {0}
-Inside m k (C.Part faces n) = (12 * faces + 3 * n ≤ m) × (faces ≤ k)
+Inside m k (C.Part faces n) = (13 * faces + 3 * n ≤ m) × (faces ≤ k)
 Inside m k (C.Refused r) = Unit {0}
 
 -- ---- the remainder and the pieces

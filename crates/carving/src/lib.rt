@@ -41,7 +41,7 @@ fn keep(p: Clipped, spare: &[f64], slots: &[u64], rest: &mut [f64], held: &mut [
             faces: 0,
         },
         Clipped::Part(f, n) => {
-            stack::copy_floats(spare, 12 * f + 3 * n, rest);
+            stack::copy_floats(spare, room::PLANE * f + 3 * n, rest);
             stack::copy_counts(slots, f, held);
             Rest {
                 verdict: Verdict::Fine,

@@ -42,7 +42,7 @@ pub record Stored (d₀ : List Float) (at : ℕ) (n₀ : List ℕ) (k : ℕ) (o 
 pub record Fits (room : ℕ) (s : Kept) (d : List Float) (at : ℕ) (n : List ℕ) (k : ℕ) : Type 0 where
   pub few : s .faces ≤ 128
   pub fit : s .corners ≤ room
-  pub place : at + 1536 + 3 * room ≤ length d
+  pub place : at + 1664 + 3 * room ≤ length d
   pub slots : k + 128 ≤ length n
 
 -- one step: whatever cell lay there, the step's outcome of it lies there now
@@ -55,5 +55,5 @@ pub record Turned (room at k : ℕ) (f : Cell → Outcome Cell) (s r : Kept) (d 
 pub record Ready (room : ℕ) (src : List Float) (from : ℕ) (src-counts : List ℕ) (j faces : ℕ) (d : List Float) (at : ℕ) (n : List ℕ) (k : ℕ) : Type 0 where
   pub listed : j + faces ≤ length src-counts
   pub within : Within (countsAt src-counts j faces) from (length src)
-  pub place : at + 1536 + 3 * room ≤ length d
+  pub place : at + 1664 + 3 * room ≤ length d
   pub slots : k + 128 ≤ length n

@@ -88,7 +88,7 @@ turned-full room at k p s d n r h g e b q = record {
 pub turned-more : (room at k : ℕ) (p : Face) (s : Kept) (d : List Float) (n : List ℕ) (d′ : List Float) (n′ : List ℕ) →
     s .verdict ≡ Fine → isFull room (s .faces) (s .corners) (length (p .points)) ≡ false → length (p .points) ≤ 128 →
     s .faces + 1 ≤ 128 → s .corners + length (p .points) ≤ room →
-    d′ ≡ sets d (at + 12 * s .faces + 3 * s .corners) (faceFloats p) → n′ ≡ set n (k + s .faces) (length (p .points)) →
+    d′ ≡ sets d (at + 13 * s .faces + 3 * s .corners) (faceFloats p) → n′ ≡ set n (k + s .faces) (length (p .points)) →
     Turned room at k (λ c. addFace room c p) s (record { verdict = s .verdict; faces = s .faces + 1; corners = s .corners + length (p .points) }) d n d′ n′
 unfolding heard addFace
 turned-more room at k p s d n d′ n′ e b small few fit ed en = record {
@@ -98,8 +98,8 @@ turned-more room at k p s d n d′ n′ e b small few fit ed en = record {
       record {
         cell = w .cell ++ (p ∷ []);
         is = ap (λ z. heard z (w .cell ++ (p ∷ []))) e ∙ ap (λ z. unless z 12 (ok (w .cell ++ (p ∷ [])))) (sym x) ∙ sym (at-cell (λ c. addFace room c p) (s .verdict) (w .cell) o e (w .is));
-        floats = ed ∙ ap (λ l. sets l (at + 12 * s .faces + 3 * s .corners) (faceFloats p)) (w .floats)
-            ∙ floats-more d₀ at (w .cell) p (at + 12 * s .faces + 3 * s .corners) (omega (arith, w .faces-are, w .corners-are));
+        floats = ed ∙ ap (λ l. sets l (at + 13 * s .faces + 3 * s .corners) (faceFloats p)) (w .floats)
+            ∙ floats-more d₀ at (w .cell) p (at + 13 * s .faces + 3 * s .corners) (omega (arith, w .faces-are, w .corners-are));
         counts = en ∙ ap (λ l. set l (k + s .faces) (length (p .points))) (w .counts) ∙ counts-more n₀ k (w .cell) p (k + s .faces) (omega (arith, w .faces-are));
         faces-are = omega (arith, w .faces-are, length-append (w .cell) (p ∷ []));
         corners-are = omega (arith, w .corners-are, corners-snoc (w .cell) p);
@@ -140,7 +140,7 @@ turned-keep room at k p s r d n d′ n′ b w = subst (λ x. Turned room at k (�
 -- the same, the number of corners being m
 pub turned-added : (room at k : ℕ) (p : Face) (s : Kept) (d : List Float) (n : List ℕ) (d′ : List Float) (n′ : List ℕ) (m : ℕ) (b : Bool) → m ≤ 128 → m ≡ length (p .points) →
     s .verdict ≡ Fine → b ≡ isFull room (s .faces) (s .corners) m → b ≡ false →
-    d′ ≡ sets d (at + 12 * s .faces + 3 * s .corners) (faceFloats p) → n′ ≡ set n (k + s .faces) m →
+    d′ ≡ sets d (at + 13 * s .faces + 3 * s .corners) (faceFloats p) → n′ ≡ set n (k + s .faces) m →
     Turned room at k (λ c. addFace room c p) s (record { verdict = s .verdict; faces = s .faces + 1; corners = s .corners + m }) d n d′ n′
 turned-added room at k p s d n d′ n′ m b h em e f g ed en =
     let x = counted room (s .faces) (s .corners) m (length (p .points)) b false em f g in
@@ -161,13 +161,13 @@ module _ (src : List Float) (ns : List ℕ) (j faces o i : ℕ) (listed : j + fa
   pub ahead-small : getD ns (j + i) 0 ≤ 128
   ahead-small = within-small (getD ns (j + i) 0) _ o (length src) this
 
-  pub ahead-inside : o + 12 + 3 * getD ns (j + i) 0 ≤ length src
+  pub ahead-inside : o + 13 + 3 * getD ns (j + i) 0 ≤ length src
   ahead-inside = within-le _ _ _ (within-rest (getD ns (j + i) 0) (drop (i + 1) (countsAt ns j faces)) o (length src) this)
 
-  pub ahead-next : Ahead src ns j faces (o + 12 + 3 * getD ns (j + i) 0) (i + 1)
+  pub ahead-next : Ahead src ns j faces (o + 13 + 3 * getD ns (j + i) 0) (i + 1)
   ahead-next = record { upto = omega arith; within = within-rest (getD ns (j + i) 0) (drop (i + 1) (countsAt ns j faces)) o (length src) this }
 
-  pub ahead-face : cellAt src o (drop i (countsAt ns j faces)) ≡ faceAt src o (getD ns (j + i) 0) ∷ cellAt src (o + 12 + 3 * getD ns (j + i) 0) (drop (i + 1) (countsAt ns j faces))
+  pub ahead-face : cellAt src o (drop i (countsAt ns j faces)) ≡ faceAt src o (getD ns (j + i) 0) ∷ cellAt src (o + 13 + 3 * getD ns (j + i) 0) (drop (i + 1) (countsAt ns j faces))
   ahead-face = ap (cellAt src o) (next-count ns j faces i h listed) ∙ cell-next src o (getD ns (j + i) 0) (drop (i + 1) (countsAt ns j faces))
 
 pub ahead-done : (src : List Float) (ns : List ℕ) (j faces o i : ℕ) → faces ≤ i → cellAt src o (drop i (countsAt ns j faces)) ≡ []
@@ -207,9 +207,9 @@ copying-start room src from ns j faces d at n k h = record {
 pub copying-step : (room : ℕ) (src : List Float) (from : ℕ) (ns : List ℕ) (j faces : ℕ) (d₀ : List Float) (at : ℕ) (n₀ : List ℕ) (k : ℕ) (s r : Kept) (d : List Float) (n : List ℕ) (d′ : List Float) (n′ : List ℕ) (o i : ℕ) →
     j + faces ≤ length ns → i < faces →
     Turned room at k (λ c. addFace room c (faceAt src o (getD ns (j + i) 0))) s r d n d′ n′ → length d′ ≡ length d → length n′ ≡ length n →
-    Copying room src from ns j faces d₀ at n₀ k s d n o i → Copying room src from ns j faces d₀ at n₀ k r d′ n′ (o + 12 + 3 * getD ns (j + i) 0) (i + 1)
+    Copying room src from ns j faces d₀ at n₀ k s d n o i → Copying room src from ns j faces d₀ at n₀ k r d′ n′ (o + 13 + 3 * getD ns (j + i) 0) (i + 1)
 copying-step room src from ns j faces d₀ at n₀ k s r d n d′ n′ o i listed h t ld ln c =
-    let l = cellAt src (o + 12 + 3 * getD ns (j + i) 0) (drop (i + 1) (countsAt ns j faces)) in
+    let l = cellAt src (o + 13 + 3 * getD ns (j + i) 0) (drop (i + 1) (countsAt ns j faces)) in
     record {
       ahead = ahead-next src ns j faces o i listed h (c .ahead);
       few = t .few;

@@ -8,7 +8,7 @@ ghost use Prim.Native.Nat.{_+_, _*_, _≤_, _<_};
 ghost use lib.ListN.{length};
 ghost use lib.Dec.{ltb};
 ghost use Rattle.polygon.specs.Polygons.{cornersOf};
-ghost use Rattle.room.specs.Rooms.{faceAt, cellAt, countsAt};
+ghost use Rattle.room.specs.Rooms.{planeSize, faceAt, cellAt, countsAt};
 ghost use Rattle.cell.specs.Cells.{isFull, addFace, keepFace, leftCell, Stored, Fits, Turned, Ready};
 
 // How many faces and corners the cell has.
@@ -55,7 +55,14 @@ pub fn add_face(
             corners: held,
         };
     }
-    room::put_face(dst, counts, at + 12 * faces + 3 * held, k + faces, w, p);
+    room::put_face(
+        dst,
+        counts,
+        at + room::PLANE * faces + 3 * held,
+        k + faces,
+        w,
+        p,
+    );
     Kept {
         verdict: v,
         faces: faces + 1,
@@ -97,7 +104,7 @@ fn copy_face(
     s: Kept,
 ) -> Kept
     requires { ⌜ Fits limit s (now dst) at (now counts) k ⌝ }
-    requires { ⌜ (n ≤ 128) × (o + 12 + 3 * n ≤ length (now src)) ⌝ }
+    requires { ⌜ (n ≤ 128) × (o + planeSize + 3 * n ≤ length (now src)) ⌝ }
     ensures { λ r. ⌜ Turned limit at k (λ c. addFace limit c (faceAt (now (src .entry)) o n)) s r (now (dst .entry)) (now (counts .entry)) (now (dst .exit)) (now (counts .exit)) ⌝ }
 {
     let v = s.verdict;
@@ -114,7 +121,15 @@ fn copy_face(
             corners: old,
         };
     }
-    room::copy_face(src, o, n, dst, counts, at + 12 * faces + 3 * old, k + faces);
+    room::copy_face(
+        src,
+        o,
+        n,
+        dst,
+        counts,
+        at + room::PLANE * faces + 3 * old,
+        k + faces,
+    );
     Kept {
         verdict: v,
         faces: faces + 1,
@@ -148,7 +163,7 @@ pub fn left_cell(
     while i < faces {
         let n = sizes[j + i] as usize;
         s = copy_face(limit, src, o, n, dst, at, counts, k, s);
-        o = o + 12 + 3 * n;
+        o = o + room::PLANE + 3 * n;
         i += 1;
     }
     s

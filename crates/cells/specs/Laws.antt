@@ -68,10 +68,10 @@ module _ (t : Precision) (room : ℕ) (a : Cell) (src : List Float) (from : ℕ)
   pub walking-step : (s r : Carved) (d : List Float) (n : List ℕ) (f : List Float) (m z : List ℕ) (d′ : List Float) (n′ : List ℕ) (f′ : List Float) (m′ z′ : List ℕ) (o i : ℕ) (w : Plane) →
       j + many ≤ length ns → i < many → w ≡ planeAt src o →
       Carves room (λ x. carvePart t room (x .out) (x .rest) w) s r d n f m z d′ n′ f′ m′ z′ →
-      Walking t room a src from ns j many s d n f m z o i → Walking t room a src from ns j many r d′ n′ f′ m′ z′ (o + 12 + 3 * getD ns (j + i) 0) (i + 1)
+      Walking t room a src from ns j many s d n f m z o i → Walking t room a src from ns j many r d′ n′ f′ m′ z′ (o + 13 + 3 * getD ns (j + i) 0) (i + 1)
   unfolding carve
   walking-step s r d n f m z d′ n′ f′ m′ z′ o i w listed h ew g c =
-      let l = cellAt src (o + 12 + 3 * getD ns (j + i) 0) (drop (i + 1) (countsAt ns j many)) in
+      let l = cellAt src (o + 13 + 3 * getD ns (j + i) 0) (drop (i + 1) (countsAt ns j many)) in
       let q : carvingAt r d′ n′ f′ m′ z′ ≡ then (carvingAt s d n f m z) (λ x. carve t room x (faceAt src o (getD ns (j + i) 0))) =
       g .is ∙ ap (λ y. then (carvingAt s d n f m z) (λ x. carvePart t room (x .out) (x .rest) y)) ew in
       record {
@@ -108,10 +108,10 @@ module _ (t : Precision) (room : ℕ) (a : Cell) (src : List Float) (from : ℕ)
   }
 
   pub meeting-step : (s r : Rest) (d : List Float) (n : List ℕ) (d′ : List Float) (n′ : List ℕ) (o i : ℕ) (w : Plane) → j + many ≤ length ns → i < many → w ≡ planeAt src o →
-      Left (clipPart t room w) s r d n d′ n′ → Meeting t room a src from ns j many s d n o i → Meeting t room a src from ns j many r d′ n′ (o + 12 + 3 * getD ns (j + i) 0) (i + 1)
+      Left (clipPart t room w) s r d n d′ n′ → Meeting t room a src from ns j many s d n o i → Meeting t room a src from ns j many r d′ n′ (o + 13 + 3 * getD ns (j + i) 0) (i + 1)
   unfolding clipFace
   meeting-step s r d n d′ n′ o i w listed h ew g c =
-      let l = cellAt src (o + 12 + 3 * getD ns (j + i) 0) (drop (i + 1) (countsAt ns j many)) in
+      let l = cellAt src (o + 13 + 3 * getD ns (j + i) 0) (drop (i + 1) (countsAt ns j many)) in
       let q : restAt r d′ n′ ≡ then (restAt s d n) (λ x. clipFace t room x (faceAt src o (getD ns (j + i) 0))) = g .is ∙ ap (λ y. then (restAt s d n) (clipPart t room y)) ew in
       record {
         ahead = ahead-next src ns j many o i listed h (c .ahead);

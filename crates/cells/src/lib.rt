@@ -78,7 +78,7 @@ pub fn difference(
             &mut order,
             &mut chain,
         );
-        o = o + 12 + 3 * n;
+        o = o + room::PLANE + 3 * n;
         i += 1;
     }
     carving::end(s)
@@ -169,7 +169,7 @@ pub fn intersection(
             &mut order,
             &mut chain,
         );
-        o = o + 12 + 3 * n;
+        o = o + room::PLANE + 3 * n;
         i += 1;
     }
     settle(limit, s, rest, held, dst, counts, sizes)

@@ -31,7 +31,7 @@ cellsEntry enough room l = then (openJob enough l) (cellsLaid l room)
 abbrev pub lengthy : ℕ → ℕ → ℕ → ℕ → ℕ → ℕ → ℕ → ℕ → ℕ → ℕ → ℕ → ℕ → ℕ → ℕ → ℕ → ℕ → Bool
 lengthy room answer rest spare dst held slots counts sizes order chain head seen work nodes cuts =
     leb room (answer / 64)
-    && ((((leb (3 * room + 1920) rest && leb (3 * room + 1536) spare) && leb (10 * room + 1536) dst) && ((leb (room + 128) held && leb (room + 128) slots) && (leb (room + 128) counts && ltb room sizes)))
+    && ((((leb (3 * room + 1984) rest && leb (3 * room + 1664) spare) && leb (11 * room + 1664) dst) && ((leb (room + 128) held && leb (room + 128) slots) && (leb (room + 128) counts && ltb room sizes)))
     && ((leb (2 * room + 1024) order && leb (2 * room + 2048) chain) && ((leb room head && leb room seen) && ((leb room work && leb room nodes) && ltb room cuts))))
 
 -- enough is lent; a room of more than 2^32 corners never is
@@ -41,9 +41,9 @@ lends room answer rest spare dst held slots counts sizes order chain head seen w
 -- what is lent suffices for a room of so many corners: lengths of the answer and of the work slices
 pub record Lent (room answer rest spare dst held slots counts sizes order chain head seen work nodes cuts : ℕ) : Type 0 where
   pub answer-fits : 64 * room ≤ answer
-  pub rest-fits : 3 * room + 1920 ≤ rest
-  pub spare-fits : 3 * room + 1536 ≤ spare
-  pub dst-fits : 10 * room + 1536 ≤ dst
+  pub rest-fits : 3 * room + 1984 ≤ rest
+  pub spare-fits : 3 * room + 1664 ≤ spare
+  pub dst-fits : 11 * room + 1664 ≤ dst
   pub held-fits : room + 128 ≤ held
   pub slots-fit : room + 128 ≤ slots
   pub counts-fit : room + 128 ≤ counts

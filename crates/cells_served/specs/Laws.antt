@@ -43,7 +43,7 @@ use Rattle.cells_served.specs.Entry.{cutBoth, cellsLaid, cellsEntry, len
 
 module _ (room answer rest spare dst held slots counts sizes order chain head seen work nodes cuts : ℕ) where
   abbrev floats : Bool
-  floats = (leb (3 * room + 1920) rest && leb (3 * room + 1536) spare) && leb (10 * room + 1536) dst
+  floats = (leb (3 * room + 1984) rest && leb (3 * room + 1664) spare) && leb (11 * room + 1664) dst
 
   abbrev list : Bool
   list = (leb (room + 128) held && leb (room + 128) slots) && (leb (room + 128) counts && ltb room sizes)
@@ -66,8 +66,8 @@ module _ (room answer rest spare dst held slots counts sizes order chain head se
       let c = and-true (floats && list) (cut && faces) (b .1) in
       let d = and-true floats list (c .0) in
       let e = and-true cut faces (c .1) in
-      let f = and-true (leb (3 * room + 1920) rest && leb (3 * room + 1536) spare) (leb (10 * room + 1536) dst) (d .0) in
-      let g = and-true (leb (3 * room + 1920) rest) (leb (3 * room + 1536) spare) (f .0) in
+      let f = and-true (leb (3 * room + 1984) rest && leb (3 * room + 1664) spare) (leb (11 * room + 1664) dst) (d .0) in
+      let g = and-true (leb (3 * room + 1984) rest) (leb (3 * room + 1664) spare) (f .0) in
       let h = and-true (leb (room + 128) held && leb (room + 128) slots) (leb (room + 128) counts && ltb room sizes) (d .1) in
       let i = and-true (leb (room + 128) held) (leb (room + 128) slots) (h .0) in
       let j = and-true (leb (room + 128) counts) (ltb room sizes) (h .1) in
@@ -78,9 +78,9 @@ module _ (room answer rest spare dst held slots counts sizes order chain head se
       let p = and-true (leb room work) (leb room nodes) (o .0) in
       record {
         answer-fits = omega (arith, leb-true room (answer / 64) (b .0));
-        rest-fits = leb-true (3 * room + 1920) rest (g .0);
-        spare-fits = leb-true (3 * room + 1536) spare (g .1);
-        dst-fits = leb-true (10 * room + 1536) dst (f .1);
+        rest-fits = leb-true (3 * room + 1984) rest (g .0);
+        spare-fits = leb-true (3 * room + 1664) spare (g .1);
+        dst-fits = leb-true (11 * room + 1664) dst (f .1);
         held-fits = leb-true (room + 128) held (i .0);
         slots-fit = leb-true (room + 128) slots (i .1);
         counts-fit = leb-true (room + 128) counts (j .0);
@@ -96,7 +96,7 @@ module _ (room answer rest spare dst held slots counts sizes order chain head se
 
 module _ (room : ℕ) (answer : List ℕ) (rest spare dst : List Float) (held slots counts sizes order chain head seen work nodes cuts : List ℕ)
     (L : Lent room (length answer) (length rest) (length spare) (length dst) (length held) (length slots) (length counts) (length sizes) (length order) (length chain) (length head) (length seen) (length work) (length nodes) (length cuts)) where
-  pub lent-cut : (1920 ≤ length rest) × (Place room rest held × Place room spare slots × Places room dst counts sizes)
+  pub lent-cut : (1984 ≤ length rest) × (Place room rest held × Place room spare slots × Places room dst counts sizes)
   lent-cut = (
     omega (arith, L .rest-fits),
     (

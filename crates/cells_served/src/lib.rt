@@ -30,11 +30,11 @@ fn cut_job(
     counts: &mut [u64],
     sizes: &mut [u64],
 ) -> Stack
-    requires { ⌜ Stood (now job) (y .first) × Stood (now job) (y .second) × (1920 ≤ length (now rest)) ⌝ }
+    requires { ⌜ Stood (now job) (y .first) × Stood (now job) (y .second) × (1984 ≤ length (now rest)) ⌝ }
     requires { ⌜ Place limit (now rest) (now held) × Place limit (now spare) (now slots) × Places limit (now dst) (now counts) (now sizes) ⌝ }
     ensures { λ r. ⌜ Listed limit (then (bothOf (now (job .entry)) y) (cutBoth limit y)) r (now (dst .exit)) (now (counts .exit)) (now (sizes .exit)) ⌝ }
 {
-    let mut src = [0.0; 1920];
+    let mut src = [0.0; 1984];
     let mut corners = [0u64; 64];
     let pair = jobs::take_both(job, y, rest, held, &mut src, &mut corners);
     let v = pair.verdict;

@@ -36,7 +36,7 @@ pub record Held (d₀ : List Float) (at : ℕ) (n₀ : List ℕ) (k : ℕ) (o : 
 pub record Space (room : ℕ) (face cap d : List Float) (at : ℕ) (n : List ℕ) (k : ℕ) : Type 0 where
   pub face-fits : 384 ≤ length face
   pub cap-fits : 3072 ≤ length cap
-  pub place : at + 1536 + 3 * room ≤ length d
+  pub place : at + 1664 + 3 * room ≤ length d
   pub slots : k + 128 ≤ length n
 
 pub record Few (room : ℕ) (s : Going) : Type 0 where

@@ -54,11 +54,11 @@ signed-start t w src from ns j faces s h e = record {
 }
 
 pub signed-step : (t : Precision) (w : Plane) (src : List Float) (from : ℕ) (ns : List ℕ) (j faces : ℕ) (s r : Seen) (o i : ℕ) → j + faces ≤ length ns → i < faces →
-    seen r ≡ then (seen s) (λ x. walk (signOne t w) x (pointsAt src (o + 12) (getD ns (j + i) 0))) →
-    Signed t w src from ns j faces s o i → Signed t w src from ns j faces r (o + 12 + 3 * getD ns (j + i) 0) (i + 1)
+    seen r ≡ then (seen s) (λ x. walk (signOne t w) x (pointsAt src (o + 13) (getD ns (j + i) 0))) →
+    Signed t w src from ns j faces s o i → Signed t w src from ns j faces r (o + 13 + 3 * getD ns (j + i) 0) (i + 1)
 unfolding signFace
 signed-step t w src from ns j faces s r o i listed h e c =
-    let l = cellAt src (o + 12 + 3 * getD ns (j + i) 0) (drop (i + 1) (countsAt ns j faces)) in
+    let l = cellAt src (o + 13 + 3 * getD ns (j + i) 0) (drop (i + 1) (countsAt ns j faces)) in
     record {
       ahead = ahead-next src ns j faces o i listed h (c .ahead);
       rest = ap (λ x. onward (signFace t w) x l) e ∙ onward-next (signFace t w) (seen s) (faceAt src o (getD ns (j + i) 0)) l
@@ -192,9 +192,9 @@ pub cutting-step : (t : Precision) (room : ℕ) (w : Plane) (src : List Float) (
     Cutter room at k (λ x. cutFace t room w x (faceAt src o (getD ns (j + i) 0))) s r cap d n cap′ d′ n′ →
     length face′ ≡ length face → length cap′ ≡ length cap → length d′ ≡ length d → length n′ ≡ length n →
     Cutting-on t room w src from ns j faces face₀ cap₀ d₀ at n₀ k s face cap d n o i →
-    Cutting-on t room w src from ns j faces face₀ cap₀ d₀ at n₀ k r face′ cap′ d′ n′ (o + 12 + 3 * getD ns (j + i) 0) (i + 1)
+    Cutting-on t room w src from ns j faces face₀ cap₀ d₀ at n₀ k r face′ cap′ d′ n′ (o + 13 + 3 * getD ns (j + i) 0) (i + 1)
 cutting-step t room w src from ns j faces face₀ cap₀ d₀ at n₀ k s r face cap d n face′ cap′ d′ n′ o i listed h g lf lc ld ln c =
-    let l = cellAt src (o + 12 + 3 * getD ns (j + i) 0) (drop (i + 1) (countsAt ns j faces)) in
+    let l = cellAt src (o + 13 + 3 * getD ns (j + i) 0) (drop (i + 1) (countsAt ns j faces)) in
     record {
       ahead = ahead-next src ns j faces o i listed h (c .ahead);
       few = g .few;

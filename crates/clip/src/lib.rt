@@ -9,7 +9,7 @@ ghost use mathlib.Core.Path.{_≡_};
 ghost use Prim.Native.Nat.{_+_, _*_, _≤_};
 ghost use lib.ListN.{length};
 ghost use Rattle.edge.specs.Meets.{seen};
-ghost use Rattle.room.specs.Rooms.{faceAt, cellAt, countsAt};
+ghost use Rattle.room.specs.Rooms.{planeSize, faceAt, cellAt, countsAt};
 ghost use Rattle.cell.specs.Cells.{Stored};
 ghost use Rattle.clip.specs.Cuts.{signsOf, cutFace, closed, cutFaces, cutCell, clipBy, clip};
 ghost use Rattle.clip.specs.Clips.{Space, Few, Cutter, Closer, Gone, Given, Hulls, answered, Clips};
@@ -47,8 +47,8 @@ fn sign_cell(
     let mut i = 0;
     while i < faces {
         let n = sizes[j + i] as usize;
-        s = ring::sign_face(t, plane, src, o + 12, n, s);
-        o = o + 12 + 3 * n;
+        s = ring::sign_face(t, plane, src, o + room::PLANE, n, s);
+        o = o + room::PLANE + 3 * n;
         i += 1;
     }
     s
@@ -70,7 +70,7 @@ fn cut_face(
     k: usize,
     s: Going,
 ) -> Going
-    requires { ⌜ (o + 12 + 3 * n ≤ length (now src)) × Space limit (now face) (now cap) (now dst) at (now counts) k × Few limit s ⌝ }
+    requires { ⌜ (o + planeSize + 3 * n ≤ length (now src)) × Space limit (now face) (now cap) (now dst) at (now counts) k × Few limit s ⌝ }
     ensures { λ r. ⌜ Cutter limit at k (λ x. cutFace t limit plane x (faceAt (now (src .entry)) o n)) s r (now (cap .entry)) (now (dst .entry)) (now (counts .entry)) (now (cap .exit)) (now (dst .exit)) (now (counts .exit)) ⌝ }
 {
     let v = s.verdict;
@@ -80,7 +80,7 @@ fn cut_face(
     let Verdict::Fine = v else {
         return s;
     };
-    let ring = ring::cut_ring(t, plane, src, o + 12, n, face, cap, caps);
+    let ring = ring::cut_ring(t, plane, src, o + room::PLANE, n, face, cap, caps);
     let rv = ring.verdict;
     let m = ring.corners;
     let more = ring.caps;
@@ -142,7 +142,7 @@ fn cut_faces(
     while i < faces {
         let n = sizes[j + i] as usize;
         s = cut_face(t, limit, plane, src, o, n, face, cap, dst, at, counts, k, s);
-        o = o + 12 + 3 * n;
+        o = o + room::PLANE + 3 * n;
         i += 1;
     }
     s
@@ -163,7 +163,7 @@ fn close(
     counts: &mut [u64],
     k: usize,
 ) -> Kept
-    requires { ⌜ (3072 ≤ length (now cap)) × Hulls (now flat) (now order) (now chain) × (at + 1536 + 3 * limit ≤ length (now dst)) × (k + 128 ≤ length (now counts)) × Few limit s ⌝ }
+    requires { ⌜ (3072 ≤ length (now cap)) × Hulls (now flat) (now order) (now chain) × (at + 1664 + 3 * limit ≤ length (now dst)) × (k + 128 ≤ length (now counts)) × Few limit s ⌝ }
     ensures { λ r. ⌜ Closer at k (closed t limit plane) s r (now (cap .entry)) (now (dst .entry)) (now (counts .entry)) (now (dst .exit)) (now (counts .exit)) ⌝ }
 {
     let v = s.verdict;

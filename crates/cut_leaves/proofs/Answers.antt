@@ -151,7 +151,7 @@ unfolding placeFits
 clip-told limit d at n k s cf wf pf ep e =
     let slots = leb (k + 128) n in
     let p = sym ep ∙ and-true wf pf (and-true cf (wf && pf) e .1) .1 in
-    leb-true 2 s (and-true slots (leb 2 s) (and-true (leb (at + 1536 + 3 * limit) d) (slots && leb 2 s) p .1) .1)
+    leb-true 2 s (and-true slots (leb 2 s) (and-true (leb (at + 1664 + 3 * limit) d) (slots && leb 2 s) p .1) .1)
 
 module _ (limit : ℕ) (src : List Float) (from : ℕ) (ns : List ℕ) (j faces : ℕ) (d : List Float) (at : ℕ) (n : List ℕ) (k : ℕ)
     (face cap flat : List Float) (order chain s : List ℕ) (cf wf pf : Bool)
@@ -185,7 +185,7 @@ module _ (limit : ℕ) (src : List Float) (from : ℕ) (ns : List ℕ) (j faces 
   place-yes e = sym ep ∙ and-true wf pf (and-true cf (wf && pf) e .1) .1
 
   abbrev place : Bool
-  place = leb (at + 1536 + 3 * limit) (length d)
+  place = leb (at + 1664 + 3 * limit) (length d)
 
   abbrev slots : Bool
   slots = leb (k + 128) (length n)
@@ -199,7 +199,7 @@ module _ (limit : ℕ) (src : List Float) (from : ℕ) (ns : List ℕ) (j faces 
       record {
         face-fits = leb-true 384 (length face) (and-true (leb 384 (length face)) (leb 3072 (length cap)) w .0);
         cap-fits = leb-true 3072 (length cap) (and-true (leb 384 (length face)) (leb 3072 (length cap)) w .1);
-        place = leb-true (at + 1536 + 3 * limit) (length d) (and-true place (slots && leb 2 (length s)) (place-yes e) .0);
+        place = leb-true (at + 1664 + 3 * limit) (length d) (and-true place (slots && leb 2 (length s)) (place-yes e) .0);
         slots = leb-true (k + 128) (length n) (and-true slots (leb 2 (length s)) more .0);
       }
 

@@ -14,17 +14,17 @@ use Rattle.cut_leaves.specs.Lending.{withinFits, cellFits}
 
 -- ---- places
 
-pub floats-low : (limit d at : ℕ) → d < at → false ≡ leb (at + 1536 + 3 * limit) d
-floats-low limit d at h = sym (lt-leb (at + 1536 + 3 * limit) d (omega arith))
+pub floats-low : (limit d at : ℕ) → d < at → false ≡ leb (at + 1664 + 3 * limit) d
+floats-low limit d at h = sym (lt-leb (at + 1664 + 3 * limit) d (omega arith))
 
-pub floats-short : (limit d at : ℕ) → at ≤ d → d - at < 1536 → false ≡ leb (at + 1536 + 3 * limit) d
-floats-short limit d at h g = sym (lt-leb (at + 1536 + 3 * limit) d (omega arith))
+pub floats-short : (limit d at : ℕ) → at ≤ d → d - at < 1664 → false ≡ leb (at + 1664 + 3 * limit) d
+floats-short limit d at h g = sym (lt-leb (at + 1664 + 3 * limit) d (omega arith))
 
-pub floats-few : (limit d at : ℕ) → at ≤ d → 1536 ≤ d - at → (d - at - 1536) / 3 < limit → false ≡ leb (at + 1536 + 3 * limit) d
-floats-few limit d at h g f = sym (lt-leb (at + 1536 + 3 * limit) d (omega arith))
+pub floats-few : (limit d at : ℕ) → at ≤ d → 1664 ≤ d - at → (d - at - 1664) / 3 < limit → false ≡ leb (at + 1664 + 3 * limit) d
+floats-few limit d at h g f = sym (lt-leb (at + 1664 + 3 * limit) d (omega arith))
 
-pub floats-fit : (limit d at : ℕ) → at ≤ d → 1536 ≤ d - at → limit ≤ (d - at - 1536) / 3 → true ≡ leb (at + 1536 + 3 * limit) d
-floats-fit limit d at h g f = sym (le-leb (at + 1536 + 3 * limit) d (omega arith))
+pub floats-fit : (limit d at : ℕ) → at ≤ d → 1664 ≤ d - at → limit ≤ (d - at - 1664) / 3 → true ≡ leb (at + 1664 + 3 * limit) d
+floats-fit limit d at h g f = sym (le-leb (at + 1664 + 3 * limit) d (omega arith))
 
 pub counts-low : (n k : ℕ) → n < k → false ≡ leb (k + 128) n
 counts-low n k h = sym (lt-leb (k + 128) n (omega arith))
@@ -53,21 +53,21 @@ module _ (m from : ℕ) (ns : List ℕ) (j faces o i : ℕ) (listed : j + faces 
   after = drop (i + 1) (countsAt ns j faces)
 
   -- the next face's test, and the rest
-  turn : (b c : Bool) → leb size 128 ≡ b → leb (o + (12 + 3 * size)) m ≡ c → ((b && c) && withinFits after (o + (12 + 3 * size)) m) ≡ withinFits (countsAt ns j faces) from m
+  turn : (b c : Bool) → leb size 128 ≡ b → leb (o + (13 + 3 * size)) m ≡ c → ((b && c) && withinFits after (o + (13 + 3 * size)) m) ≡ withinFits (countsAt ns j faces) from m
   unfolding withinFits
   turn b c e f =
-      sym (ap (λ x. (x && leb (o + (12 + 3 * size)) m) && withinFits after (o + (12 + 3 * size)) m) e ∙ ap (λ x. (b && x) && withinFits after (o + (12 + 3 * size)) m) f)
+      sym (ap (λ x. (x && leb (o + (13 + 3 * size)) m) && withinFits after (o + (13 + 3 * size)) m) e ∙ ap (λ x. (b && x) && withinFits after (o + (13 + 3 * size)) m) f)
       ∙ ap (λ l. withinFits l o m) (sym (next-count ns j faces i more listed)) ∙ s .rest
 
   pub scan-big : 128 < size → false ≡ withinFits (countsAt ns j faces) from m
-  scan-big h = turn false (leb (o + (12 + 3 * size)) m) (lt-leb _ _ h) refl
+  scan-big h = turn false (leb (o + (13 + 3 * size)) m) (lt-leb _ _ h) refl
 
-  pub scan-over : size ≤ 128 → m - o < 12 + 3 * size → false ≡ withinFits (countsAt ns j faces) from m
-  scan-over h g = turn true false (le-leb size 128 h) (lt-leb (o + (12 + 3 * size)) m (omega (arith, s .low)))
+  pub scan-over : size ≤ 128 → m - o < 13 + 3 * size → false ≡ withinFits (countsAt ns j faces) from m
+  scan-over h g = turn true false (le-leb size 128 h) (lt-leb (o + (13 + 3 * size)) m (omega (arith, s .low)))
 
-  pub scan-step : size ≤ 128 → 12 + 3 * size ≤ m - o → Scanning m from ns j faces (o + (12 + 3 * size)) (i + 1)
+  pub scan-step : size ≤ 128 → 13 + 3 * size ≤ m - o → Scanning m from ns j faces (o + (13 + 3 * size)) (i + 1)
   scan-step h g =
-      let fit : o + (12 + 3 * size) ≤ m = omega (arith, s .low) in
+      let fit : o + (13 + 3 * size) ≤ m = omega (arith, s .low) in
       record { upto = omega arith; low = fit; rest = turn true true (le-leb _ _ h) (le-leb _ _ fit) }
 
 pub scan-end : (m from : ℕ) (ns : List ℕ) (j faces o i : ℕ) → faces ≤ i → Scanning m from ns j faces o i → true ≡ withinFits (countsAt ns j faces) from m
@@ -99,11 +99,11 @@ within-is : (ns : List ℕ) (at m : ℕ) → at ≤ m → withinFits ns at m ≡
 unfolding withinFits Within
 within-is [] at m h e = h
 within-is (n ∷ ns) at m h e =
-    let rest = withinFits ns (at + (12 + 3 * n)) m in
-    let both = and-true (leb n 128 && leb (at + (12 + 3 * n)) m) rest e .0 in
-    let d : at + (12 + 3 * n) ≡ at + 12 + 3 * n = omega arith in
-    let go : Within ns (at + (12 + 3 * n)) m = within-is ns (at + (12 + 3 * n)) m (leb-true (at + (12 + 3 * n)) m (and-true (leb n 128) (leb (at + (12 + 3 * n)) m) both .1)) (and-true (leb n 128 && leb (at + (12 + 3 * n)) m) rest e .1) in
-    (leb-true n 128 (and-true (leb n 128) (leb (at + (12 + 3 * n)) m) both .0), rw d at go)
+    let rest = withinFits ns (at + (13 + 3 * n)) m in
+    let both = and-true (leb n 128 && leb (at + (13 + 3 * n)) m) rest e .0 in
+    let d : at + (13 + 3 * n) ≡ at + 13 + 3 * n = omega arith in
+    let go : Within ns (at + (13 + 3 * n)) m = within-is ns (at + (13 + 3 * n)) m (leb-true (at + (13 + 3 * n)) m (and-true (leb n 128) (leb (at + (13 + 3 * n)) m) both .1)) (and-true (leb n 128 && leb (at + (13 + 3 * n)) m) rest e .1) in
+    (leb-true n 128 (and-true (leb n 128) (leb (at + (13 + 3 * n)) m) both .0), rw d at go)
 
 pub record CellLent (m from : ℕ) (ns : List ℕ) (j faces : ℕ) : Type 0 where
   pub listed : j + faces ≤ length ns

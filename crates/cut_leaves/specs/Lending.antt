@@ -59,7 +59,7 @@ hullLent t w cap points flat order chain d n =
 -- faces with these numbers of corners lie within m floats, each with at most 128 corners
 unfoldable pub withinFits : List ℕ → ℕ → ℕ → Bool
 withinFits [] at m = true
-withinFits (n ∷ ns) at m = (leb n 128 && leb (at + (12 + 3 * n)) m) && withinFits ns (at + (12 + 3 * n)) m
+withinFits (n ∷ ns) at m = (leb n 128 && leb (at + (13 + 3 * n)) m) && withinFits ns (at + (13 + 3 * n)) m
 
 unfoldable pub cellFits : ℕ → ℕ → List ℕ → ℕ → ℕ → Bool
 cellFits m from sizes j faces = leb (j + faces) (length sizes) && (leb from m && withinFits (countsAt sizes j faces) from m)
@@ -70,7 +70,7 @@ workFits face cap flat order chain = (leb 384 face && leb 3072 cap) && ((leb 204
 
 -- the cell's place, and that of the numbers of faces and corners
 unfoldable pub placeFits : ℕ → ℕ → ℕ → ℕ → ℕ → ℕ → Bool
-placeFits limit d at n k told = leb (at + 1536 + 3 * limit) d && (leb (k + 128) n && leb 2 told)
+placeFits limit d at n k told = leb (at + 1664 + 3 * limit) d && (leb (k + 128) n && leb 2 told)
 
 -- how many faces and corners there are: none where nothing is left, and untouched at a refusal
 unfoldable pub partTold : List ℕ → Outcome Part → List ℕ

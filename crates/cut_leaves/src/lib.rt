@@ -123,7 +123,7 @@ fn within_fits(m: usize, from: usize, sizes: &[u64], j: usize, faces: usize) -> 
         if 128 < n {
             return false;
         }
-        let size = 12 + 3 * (n as usize);
+        let size = room::PLANE + 3 * (n as usize);
         if m - o < size {
             return false;
         }
@@ -158,16 +158,16 @@ fn work_fits(face: usize, cap: usize, flat: usize, order: usize, chain: usize) -
 
 // Whether a cell of at most `limit` corners fits behind `at`.
 fn floats_fit(limit: usize, d: usize, at: usize) -> bool
-    ensures { λ r. ⌜ r ≡ leb (at + 1536 + 3 * limit) d ⌝ }
+    ensures { λ r. ⌜ r ≡ leb (at + 1664 + 3 * limit) d ⌝ }
 {
     if d < at {
         return false;
     }
     let rest = d - at;
-    if rest < 1536 {
+    if rest < 1664 {
         return false;
     }
-    if (rest - 1536) / 3 < limit {
+    if (rest - 1664) / 3 < limit {
         return false;
     }
     true

@@ -192,7 +192,7 @@ pub record Ahead (left : List Cell) (room : ℕ) (d : List Float) (o : ℕ) (ns 
   pub is : cellAt d o (countsAt ns f n) ≡ cell
   pub counts : countsAt ns f n ≡ cellCounts cell
   pub held : q + total (countsAt ns f n) ≤ room
-  pub floats : o + (12 * n + 3 * total (countsAt ns f n)) ≤ length d
+  pub floats : o + (13 * n + 3 * total (countsAt ns f n)) ≤ length d
   pub few : 3 * n ≤ total (countsAt ns f n)
 
 -- a count that is the length of a list
@@ -204,7 +204,7 @@ outside e h = omega (arith, e)
 
 -- what the next places are is within the slices
 pub record Sums (d : List Float) (ns : List ℕ) (s : List Float) (i m : List ℕ) (o f p q j n c k : ℕ) : Type 0 where
-  pub floats : o + (12 * n + 3 * c) ≤ length d
+  pub floats : o + (13 * n + 3 * c) ≤ length d
   pub faces : f + n ≤ length ns
   pub points : p + 3 * k ≤ length s
   pub places : q + c ≤ length i
@@ -337,7 +337,7 @@ module _ {t : Precision} {cs : List Cell} {s₀ : List Float} {i₀ m₀ : List 
           mark = finishing-mark h S;
         }
 
-    pub finishing-step : (k : ℕ) (m′ : List ℕ) → r ≡ C.Made k → m′ ≡ set m j k → Finishing t cs s₀ i₀ m₀ s′ i′ m′ (o + (12 * getD z j 0 + 3 * c)) (f + getD z j 0) (p + 3 * k) (q + c) (j + 1)
+    pub finishing-step : (k : ℕ) (m′ : List ℕ) → r ≡ C.Made k → m′ ≡ set m j k → Finishing t cs s₀ i₀ m₀ s′ i′ m′ (o + (13 * getD z j 0 + 3 * c)) (f + getD z j 0) (p + 3 * k) (q + c) (j + 1)
     finishing-step k m′ g w =
         let A = finishing-ahead h in
         let x = built-of (built t (cellAt d o (countsAt ns f (getD z j 0)))) s′ i′ r k B g in

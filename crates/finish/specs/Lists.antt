@@ -108,7 +108,7 @@ module _ (room : ℕ) (a : List Cell) (c : Cell) (b : List Cell) (d : List Float
       pub here-cell : cellAt d o (countsAt n f (length c)) ≡ c
       here-cell = ap (cellAt d o) here-counts ∙ ap (λ l. cellAt l o (cellCounts c)) all-floats ∙ cell-back (cellsFloats a) c (cellsFloats b ++ L .floats .tail) o (sym g)
 
-      pub here-room : o + (12 * length c + 3 * corners 0 c) ≤ length d
+      pub here-room : o + (13 * length c + 3 * corners 0 c) ≤ length d
       here-room =
           omega (
             arith,

@@ -135,7 +135,7 @@ pub fn finish_cells(
             }
             Counted::Made(m) => {
                 marks[j] = m as u64;
-                o += 12 * n + 3 * c;
+                o += room::PLANE * n + 3 * c;
                 f += n;
                 p += 3 * m;
                 q += c;

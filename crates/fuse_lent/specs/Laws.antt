@@ -10,7 +10,7 @@ use Rattle.fuse_lent.specs.Lent.{Lent, lengthy, lends}
 
 module _ (room answer rest spare dst held slots counts sizes seats lengths owners cells cuts runs keys begins ord ends marks out many shells : ℕ) where
   abbrev floats : Bool
-  floats = (leb (3 * room + 1920) rest && leb (10 * room + 1536) spare) && leb (10 * room + 1536) dst
+  floats = (leb (3 * room + 1984) rest && leb (11 * room + 1664) spare) && leb (11 * room + 1664) dst
 
   abbrev list : Bool
   list = ((leb (room + 128) held && leb (room + 128) slots) && leb (room + 128) counts) && (ltb room sizes && ltb room seats)
@@ -41,8 +41,8 @@ module _ (room answer rest spare dst held slots counts sizes seats lengths owner
       let d = and-true floats list (c .0) in
       let e = and-true layout (sorting && bodies) (c .1) in
       let f = and-true sorting bodies (e .1) in
-      let fa = and-true (leb (3 * room + 1920) rest && leb (10 * room + 1536) spare) (leb (10 * room + 1536) dst) (d .0) in
-      let fb = and-true (leb (3 * room + 1920) rest) (leb (10 * room + 1536) spare) (fa .0) in
+      let fa = and-true (leb (3 * room + 1984) rest && leb (11 * room + 1664) spare) (leb (11 * room + 1664) dst) (d .0) in
+      let fb = and-true (leb (3 * room + 1984) rest) (leb (11 * room + 1664) spare) (fa .0) in
       let la = and-true ((leb (room + 128) held && leb (room + 128) slots) && leb (room + 128) counts) (ltb room sizes && ltb room seats) (d .1) in
       let lb = and-true (leb (room + 128) held && leb (room + 128) slots) (leb (room + 128) counts) (la .0) in
       let lc = and-true (leb (room + 128) held) (leb (room + 128) slots) (lb .0) in
@@ -60,9 +60,9 @@ module _ (room answer rest spare dst held slots counts sizes seats lengths owner
       record {
         low = leb-true room 4294967296 (a .0);
         answer-fits = omega (arith, leb-true room (answer / 64) (b .0));
-        rest-fits = leb-true (3 * room + 1920) rest (fb .0);
-        spare-fits = leb-true (10 * room + 1536) spare (fb .1);
-        dst-fits = leb-true (10 * room + 1536) dst (fa .1);
+        rest-fits = leb-true (3 * room + 1984) rest (fb .0);
+        spare-fits = leb-true (11 * room + 1664) spare (fb .1);
+        dst-fits = leb-true (11 * room + 1664) dst (fa .1);
         held-fits = leb-true (room + 128) held (lc .0);
         slots-fit = leb-true (room + 128) slots (lc .1);
         counts-fit = leb-true (room + 128) counts (lb .1);

@@ -7,9 +7,9 @@ use lib.Dec.{leb, ltb}
 pub record Lent (room answer rest spare dst held slots counts sizes seats lengths owners cells cuts runs keys begins ord ends marks out many shells : ℕ) : Type 0 where
   pub low : room ≤ 4294967296
   pub answer-fits : 64 * room ≤ answer
-  pub rest-fits : 3 * room + 1920 ≤ rest
-  pub spare-fits : 10 * room + 1536 ≤ spare
-  pub dst-fits : 10 * room + 1536 ≤ dst
+  pub rest-fits : 3 * room + 1984 ≤ rest
+  pub spare-fits : 11 * room + 1664 ≤ spare
+  pub dst-fits : 11 * room + 1664 ≤ dst
   pub held-fits : room + 128 ≤ held
   pub slots-fit : room + 128 ≤ slots
   pub counts-fit : room + 128 ≤ counts
@@ -33,7 +33,7 @@ pub record Lent (room answer rest spare dst held slots counts sizes seats length
 abbrev pub lengthy : ℕ → ℕ → ℕ → ℕ → ℕ → ℕ → ℕ → ℕ → ℕ → ℕ → ℕ → ℕ → ℕ → ℕ → ℕ → ℕ → ℕ → ℕ → ℕ → ℕ → ℕ → ℕ → ℕ → Bool
 lengthy room answer rest spare dst held slots counts sizes seats lengths owners cells cuts runs keys begins ord ends marks out many shells =
     leb room (answer / 64)
-    && ((((leb (3 * room + 1920) rest && leb (10 * room + 1536) spare) && leb (10 * room + 1536) dst) && (((leb (room + 128) held && leb (room + 128) slots) && leb (room + 128) counts) && (ltb room sizes && ltb room seats)))
+    && ((((leb (3 * room + 1984) rest && leb (11 * room + 1664) spare) && leb (11 * room + 1664) dst) && (((leb (room + 128) held && leb (room + 128) slots) && leb (room + 128) counts) && (ltb room sizes && ltb room seats)))
     && (((leb room lengths && leb room owners) && (leb room cells && ltb room cuts)) && (((leb (3 * room) runs && leb (2 * room) keys) && (ltb room begins && leb room ord)) && ((leb room ends && ltb room marks) && ((leb room out && leb room many) && leb room shells)))))
 
 unfoldable pub lends : ℕ → ℕ → ℕ → ℕ → ℕ → ℕ → ℕ → ℕ → ℕ → ℕ → ℕ → ℕ → ℕ → ℕ → ℕ → ℕ → ℕ → ℕ → ℕ → ℕ → ℕ → ℕ → ℕ → Bool

@@ -99,7 +99,7 @@ module _ (room : ℕ) (answer : List ℕ) (rest spare dst : List Float) (held sl
   lent : Lent room (length answer) (length rest) (length spare) (length dst) (length held) (length slots) (length counts) (length sizes) (length seats) (length lengths) (length owners) (length cells) (length cuts) (length runs) (length keys) (length begins) (length ord) (length ends) (length marks) (length out) (length many) (length shells)
   lent = lent-is room (length answer) (length rest) (length spare) (length dst) (length held) (length slots) (length counts) (length sizes) (length seats) (length lengths) (length owners) (length cells) (length cuts) (length runs) (length keys) (length begins) (length ord) (length ends) (length marks) (length out) (length many) (length shells) (sym q ∙ job-opened enough l y opened .0)
 
-  pub cut-asks : (Stood l (y .first) × Stood l (y .second)) × ((1920 ≤ length rest) × Place room rest held × Places room dst counts sizes × Places room spare slots seats)
+  pub cut-asks : (Stood l (y .first) × Stood l (y .second)) × ((1984 ≤ length rest) × Place room rest held × Places room dst counts sizes × Places room spare slots seats)
   cut-asks =
       let o = job-opened enough l y opened in
       let L = lent in (

@@ -29,12 +29,12 @@ fn cut_job(
     seats: &mut [u64],
 ) -> Stack
     requires { ⌜ Stood (now job) (y .first) × Stood (now job) (y .second) ⌝ }
-    requires { ⌜ (1920 ≤ length (now rest)) × Place limit (now rest) (now held) × Places limit (now dst) (now counts) (now sizes) × Places limit (now spare) (now slots) (now seats) ⌝ }
+    requires { ⌜ (1984 ≤ length (now rest)) × Place limit (now rest) (now held) × Places limit (now dst) (now counts) (now sizes) × Places limit (now spare) (now slots) (now seats) ⌝ }
     ensures { λ r. ⌜ Listed limit (then (bothOf (now (job .entry)) y) (piecesBoth limit y)) r (now (dst .exit)) (now (counts .exit)) (now (sizes .exit)) ⌝ }
 {
-    let mut src = [0.0; 1920];
+    let mut src = [0.0; 1984];
     let mut corners = [0u64; 64];
-    let mut planes = [0.0; 3072];
+    let mut planes = [0.0; 3328];
     let o = y.operation;
     let t = y.precision;
     let pair = jobs::take_both(job, y, rest, held, &mut src, &mut corners);

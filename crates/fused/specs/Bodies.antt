@@ -2,6 +2,7 @@
 use mathlib.Core.List.{List, [], _∷_, map}
 use Prim.Native.Nat.{ℕ}
 use lib.ListN.{length, getD}
+use lib.Ieee.{nan}
 use Rattle.refusal.specs.Outcome.{Outcome, ok, then}
 use Rattle.space.specs.declared.Point3.{Point3}
 use Rattle.space.specs.declared.Precision.{Precision}
@@ -14,7 +15,7 @@ use Rattle.arrangement.specs.Arrangements.{facesOf, Arrangement, arrangeCells}
 
 -- what is read past the end of a list of faces
 abbrev pub noFace : Face
-noFace = record { plane = record { frame = record { origin = nowhere; x = nowhere; y = nowhere; z = nowhere } }; points = [] }
+noFace = record { plane = record { frame = record { origin = nowhere; x = nowhere; y = nowhere; z = nowhere }; mark = nan }; points = [] }
 
 module _ (a : Arrangement) where
   -- facet i has the i-th cycle, and belongs to the i-th owner

@@ -26,7 +26,7 @@ pub record Drawn (s : List Float) (spots : List ℕ) (ps : List Float) (v starts
   pub fine : Starts v starts f
   pub points : Points ps v
   pub many : f ≤ length spots
-  pub planes : (i : ℕ) → i < f → getD spots i 0 + 12 ≤ length s
+  pub planes : (i : ℕ) → i < f → getD spots i 0 + 13 ≤ length s
 
 module _ (s : List Float) (spots : List ℕ) (ps : List Float) (v starts : List ℕ) where
   unfoldable pub facetBytes : ℕ → List ℕ

@@ -14,7 +14,7 @@ use Rattle.room.specs.Laws.{next-count, counts-done, within-rest, within-le}
 
 unfoldable pub spotsFrom : ℕ → List ℕ → List ℕ
 spotsFrom at [] = []
-spotsFrom at (n ∷ ns) = at ∷ spotsFrom (at + 12 + 3 * n) ns
+spotsFrom at (n ∷ ns) = at ∷ spotsFrom (at + 13 + 3 * n) ns
 
 pub record Spotting (counts : List ℕ) (f m : ℕ) (spots₀ spots : List ℕ) (o i : ℕ) : Type 0 where
   pub within : i ≤ f
@@ -30,22 +30,22 @@ module _ (counts : List ℕ) (f m : ℕ) (spots₀ spots : List ℕ) (o i : ℕ)
     ahead : drop i (countsAt counts 0 f) ≡ getD counts i 0 ∷ drop (i + 1) (countsAt counts 0 f)
     ahead = next-count counts 0 f i h (omega arith) ∙ ap (λ k. getD counts k 0 ∷ drop (i + 1) (countsAt counts 0 f)) (omega arith)
 
-    left-after : Within (drop (i + 1) (countsAt counts 0 f)) (o + 12 + 3 * getD counts i 0) m
+    left-after : Within (drop (i + 1) (countsAt counts 0 f)) (o + 13 + 3 * getD counts i 0) m
     left-after = within-rest _ _ _ _ (subst (λ ns. Within ns o m) ahead (w .left))
 
-    pub spotting-fits : o + 12 + 3 * getD counts i 0 ≤ m
+    pub spotting-fits : o + 13 + 3 * getD counts i 0 ≤ m
     spotting-fits = within-le _ _ _ left-after
 
-    pub spotting-turn : Spotting counts f m spots₀ (set spots i o) (o + (12 + 3 * getD counts i 0)) (i + 1)
+    pub spotting-turn : Spotting counts f m spots₀ (set spots i o) (o + (13 + 3 * getD counts i 0)) (i + 1)
     unfolding spotsFrom
     spotting-turn =
-        let e : o + (12 + 3 * getD counts i 0) ≡ o + 12 + 3 * getD counts i 0 = omega arith in
+        let e : o + (13 + 3 * getD counts i 0) ≡ o + 13 + 3 * getD counts i 0 = omega arith in
         record {
           within = omega arith;
           same = length-set spots i o ∙ w .same;
           left = subst (λ a. Within (drop (i + 1) (countsAt counts 0 f)) a m) (sym e) left-after;
           whole = ap (λ a. sets (set spots i o) (i + 1) (spotsFrom a (drop (i + 1) (countsAt counts 0 f)))) e
-              ∙ ap (λ k. sets (set spots i o) k (spotsFrom (o + 12 + 3 * getD counts i 0) (drop (i + 1) (countsAt counts 0 f)))) (add-one i)
+              ∙ ap (λ k. sets (set spots i o) k (spotsFrom (o + 13 + 3 * getD counts i 0) (drop (i + 1) (countsAt counts 0 f)))) (add-one i)
               ∙ ap (λ ns. sets spots i (spotsFrom o ns)) (sym ahead) ∙ w .whole;
         }
 
@@ -58,20 +58,20 @@ module _ (counts : List ℕ) (f m : ℕ) (spots₀ spots : List ℕ) (o i : ℕ)
 length-spots : (at : ℕ) (ns : List ℕ) → length (spotsFrom at ns) ≡ length ns
 unfolding spotsFrom
 length-spots at [] = refl
-length-spots at (n ∷ ns) = ap suc (length-spots (at + 12 + 3 * n) ns)
+length-spots at (n ∷ ns) = ap suc (length-spots (at + 13 + 3 * n) ns)
 
-pub spot-within : (at m : ℕ) (ns : List ℕ) (i : ℕ) → Within ns at m → i < length ns → getD (spotsFrom at ns) i 0 + 12 ≤ m
+pub spot-within : (at m : ℕ) (ns : List ℕ) (i : ℕ) → Within ns at m → i < length ns → getD (spotsFrom at ns) i 0 + 13 ≤ m
 unfolding spotsFrom
 spot-within at m [] i w h = absurd (omega arith)
 spot-within at m (n ∷ ns) zero w h = omega (arith, within-le _ _ _ (within-rest _ _ _ _ w))
-spot-within at m (n ∷ ns) (suc i) w h = spot-within (at + 12 + 3 * n) m ns i (within-rest _ _ _ _ w) (omega arith)
+spot-within at m (n ∷ ns) (suc i) w h = spot-within (at + 13 + 3 * n) m ns i (within-rest _ _ _ _ w) (omega arith)
 
 -- the plane of face i of the cells
 pub spot-plane : (s : List Float) (at : ℕ) (ns : List ℕ) (i : ℕ) (z : Face) → i < length ns → planeAt s (getD (spotsFrom at ns) i 0) ≡ getD (cellAt s at ns) i z .plane
 unfolding spotsFrom cellAt
 spot-plane s at [] i z h = absurd (omega arith)
 spot-plane s at (n ∷ ns) zero z h = refl
-spot-plane s at (n ∷ ns) (suc i) z h = spot-plane s (at + 12 + 3 * n) ns i z (omega arith)
+spot-plane s at (n ∷ ns) (suc i) z h = spot-plane s (at + 13 + 3 * n) ns i z (omega arith)
 
 pub spot-stored : (spots : List ℕ) (ns : List ℕ) (i : ℕ) → length ns ≤ length spots → i < length ns → getD (sets spots 0 (spotsFrom 0 ns)) i 0 ≡ getD (spotsFrom 0 ns) i 0
 spot-stored spots ns i l h =

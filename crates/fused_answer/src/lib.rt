@@ -28,7 +28,7 @@ pub fn plane_spots(counts: &[u64], f: usize, m: usize, spots: &mut [u64])
     while i < f {
         let n = counts[i] as usize;
         spots[i] = o as u64;
-        o += 12 + 3 * n;
+        o += room::PLANE + 3 * n;
         i += 1;
     }
 }

@@ -80,11 +80,11 @@ module _ {s : List Float} {at n : ℕ} {d₀ : List Float} {to : ℕ} {d : List 
 -- ---- one face
 
 module _ (t : Precision) (f : Face) (to : ℕ) (d₀ d : List Float) (v : Verdict) where
-  pub face-reversed : (w : Plane) (e : List Float) → oppositeOf t (f .plane) ≡ ok w → v ≡ D.Fine → e ≡ sets d₀ to (planeFloats w) → d ≡ sets e (to + 12) (floatsOf (reverse (f .points))) → FaceMoved (reversedFace t f) to d₀ d v
+  pub face-reversed : (w : Plane) (e : List Float) → oppositeOf t (f .plane) ≡ ok w → v ≡ D.Fine → e ≡ sets d₀ to (planeFloats w) → d ≡ sets e (to + 13) (floatsOf (reverse (f .points))) → FaceMoved (reversedFace t f) to d₀ d v
   unfolding reversedFace FaceMoved
   face-reversed w e p u g h =
       subst (λ y. FaceMoved (then y (λ w. ok (record { plane = w; points = reverse (f .points) }))) to d₀ d v) (sym p)
-      (u, h ∙ ap (λ y. sets y (to + 12) (floatsOf (reverse (f .points)))) g ∙ sets-append d₀ to (planeFloats w) (floatsOf (reverse (f .points))))
+      (u, h ∙ ap (λ y. sets y (to + 13) (floatsOf (reverse (f .points)))) g ∙ sets-append d₀ to (planeFloats w) (floatsOf (reverse (f .points))))
 
   pub face-stays : (r : Refusal) → oppositeOf t (f .plane) ≡ refused r → v ≡ D.Refused r → length d ≡ length d₀ → FaceMoved (reversedFace t f) to d₀ d v
   unfolding reversedFace FaceMoved
@@ -109,17 +109,17 @@ reversing-start g h = record { ahead = record { upto = omega arith; within = g .
 module _ {t : Precision} {s : List Float} {from : ℕ} {counts : List ℕ} {first n : ℕ} {d₀ : List Float} {to : ℕ} {n₀ : List ℕ} {k : ℕ} {d : List Float} {ns : List ℕ} {o q j : ℕ}
     (I : Reversing t s from counts first n d₀ to n₀ k d ns o q j) (given : Lies s from counts first n) where
   module _ (h : j < n) where
-    pub reversing-inside : o + 12 + 3 * getD counts (first + j) 0 ≤ length s
+    pub reversing-inside : o + 13 + 3 * getD counts (first + j) 0 ≤ length s
     reversing-inside = ahead-inside s counts first n o j (given .listed) h (I .ahead)
 
-    pub reversing-fits : q + 12 + 3 * getD counts (first + j) 0 ≤ length d
+    pub reversing-fits : q + 13 + 3 * getD counts (first + j) 0 ≤ length d
     reversing-fits = listing-fits (I .listing) (given .listed) h
 
     sized : (g : Face) → reversedFace t (faceAt s o (getD counts (first + j) 0)) ≡ ok g → length (g .points) ≡ getD counts (first + j) 0
-    sized g e = reversed-corners t (faceAt s o (getD counts (first + j) 0)) g e ∙ length-pointsAt s (o + 12) (getD counts (first + j) 0)
+    sized g e = reversed-corners t (faceAt s o (getD counts (first + j) 0)) g e ∙ length-pointsAt s (o + 13) (getD counts (first + j) 0)
 
     pub reversing-step : (d′ : List Float) (ns′ : List ℕ) (v : Verdict) → FaceMoved (reversedFace t (faceAt s o (getD counts (first + j) 0))) q d d′ v → v ≡ D.Fine → ns′ ≡ set ns (k + j) (getD counts (first + j) 0) →
-        Reversing t s from counts first n d₀ to n₀ k d′ ns′ (o + 12 + 3 * getD counts (first + j) 0) (q + 12 + 3 * getD counts (first + j) 0) (j + 1)
+        Reversing t s from counts first n d₀ to n₀ k d′ ns′ (o + 13 + 3 * getD counts (first + j) 0) (q + 13 + 3 * getD counts (first + j) 0) (j + 1)
     reversing-step d′ ns′ v m e u = record {
       ahead = ahead-next s counts first n o j (given .listed) h (I .ahead);
       listing = listing-step (I .listing) (given .listed) h (faceAt s o (getD counts (first + j) 0)) _ d′ ns′ v (ahead-face s counts first n o j (given .listed) h (I .ahead)) m e sized u;
@@ -152,10 +152,10 @@ module _ {s : List Float} {from : ℕ} {counts : List ℕ} {first n held j : ℕ
       let c = getD counts (first + j) 0 in
       let e = ahead-face s counts first n (I .o) j (given .listed) h (I .ahead) in
       record {
-        o = I .o + 12 + 3 * getD counts (first + j) 0;
+        o = I .o + 13 + 3 * getD counts (first + j) 0;
         ahead = ahead-next s counts first n (I .o) j (given .listed) h (I .ahead);
         few = omega (arith, I .few);
-        left = omega (arith, I .left, ap (corners 0) e, corners-cons (faceAt s (I .o) c) (cellAt s (I .o + 12 + 3 * c) (drop (j + 1) (countsAt counts first n))), length-pointsAt s (I .o + 12) c);
+        left = omega (arith, I .left, ap (corners 0) e, corners-cons (faceAt s (I .o) c) (cellAt s (I .o + 13 + 3 * c) (drop (j + 1) (countsAt counts first n))), length-pointsAt s (I .o + 13) c);
       }
 
   pub counting-end : n ≤ j → held ≡ corners 0 (cellAt s from (countsAt counts first n))
@@ -171,12 +171,12 @@ hollowed a b = record { outer = a; inner = b }
 
 -- the place behind the outer cell, by its number of corners
 pub place-at : (counts : List ℕ) (first n : ℕ) (d : List Float) (to faces : ℕ) (c : Cell) (sizes : List ℕ) (k x : ℕ) → x ≡ corners 0 c → Place counts first n d (behind to faces c) sizes k →
-    Place counts first n d (to + 12 * faces + 3 * x) sizes k
-place-at counts first n d to faces c sizes k x e p = subst (λ y. Place counts first n d (to + 12 * faces + 3 * y) sizes k) (sym e) p
+    Place counts first n d (to + 13 * faces + 3 * x) sizes k
+place-at counts first n d to faces c sizes k x e p = subst (λ y. Place counts first n d (to + 13 * faces + 3 * y) sizes k) (sym e) p
 
 pub moved-at : (o : Outcome Cell) (n : ℕ) (d₀ : List Float) (to faces : ℕ) (n₀ : List ℕ) (k : ℕ) (d : List Float) (ns : List ℕ) (v : Verdict) (c : Cell) (x : ℕ) → x ≡ corners 0 c →
-    CellMoved o n d₀ (to + 12 * faces + 3 * x) n₀ k d ns v → CellMoved o n d₀ (behind to faces c) n₀ k d ns v
-moved-at o n d₀ to faces n₀ k d ns v c x e m = subst (λ y. CellMoved o n d₀ (to + 12 * faces + 3 * y) n₀ k d ns v) e m
+    CellMoved o n d₀ (to + 13 * faces + 3 * x) n₀ k d ns v → CellMoved o n d₀ (behind to faces c) n₀ k d ns v
+moved-at o n d₀ to faces n₀ k d ns v c x e m = subst (λ y. CellMoved o n d₀ (to + 13 * faces + 3 * y) n₀ k d ns v) e m
 
 -- 12, or not
 pub room-full : (room n : ℕ) (r : Refusal) → room < n → r ≡ refusalOf 12 → D.Refused r ≡ roomFor room n

@@ -16,7 +16,7 @@ use Rattle.hollow.specs.Hollows.{Hollow}
 
 -- the place behind a cell of n faces
 abbrev pub behind : ℕ → ℕ → Cell → ℕ
-behind to n c = to + 12 * n + 3 * corners 0 c
+behind to n c = to + 13 * n + 3 * corners 0 c
 
 -- the inner shell stands from two places on, behind the outer one, which is as it was; a refusal leaves only the lengths as they were
 unfoldable pub Walled : Outcome Hollow → List Float → ℕ → List ℕ → ℕ → List Float → List ℕ → Verdict → Type 0

@@ -10,7 +10,7 @@ ghost use lib.Seq.{sets};
 ghost use Rattle.refusal.specs.Outcome.{each};
 ghost use Rattle.space.specs.Shapes.{corners};
 ghost use Rattle.polygon.specs.Memory.{floatsOf, pointsAt};
-ghost use Rattle.room.specs.Rooms.{faceAt, cellAt, countsAt};
+ghost use Rattle.room.specs.Rooms.{planeSize, faceAt, cellAt, countsAt};
 ghost use Rattle.bounds.specs.Bounds.{Lies};
 ghost use Rattle.offset.specs.Stored.{FaceMoved, CellMoved, Place};
 ghost use Rattle.hollow.specs.Hollows.{thick, reversedFace, roomFor, hollowIn};
@@ -48,7 +48,7 @@ fn reverse_face(
     dst: &mut [f64],
     to: usize,
 ) -> Verdict
-    requires { ⌜ (o + 12 + 3 * c ≤ length (now src)) × (to + 12 + 3 * c ≤ length (now dst)) ⌝ }
+    requires { ⌜ (o + planeSize + 3 * c ≤ length (now src)) × (to + planeSize + 3 * c ≤ length (now dst)) ⌝ }
     ensures { λ r. ⌜ FaceMoved (reversedFace t (faceAt (now (src .entry)) o c)) to (now (dst .entry)) (now (dst .exit)) r ⌝ }
 {
     let w = room::get_plane(src, o);
@@ -61,7 +61,7 @@ fn reverse_face(
             room::put_plane(dst, to, f);
         }
     }
-    reverse_points(src, o + 12, c, dst, to + 12);
+    reverse_points(src, o + room::PLANE, c, dst, to + room::PLANE);
     Verdict::Fine
 }
 
@@ -94,8 +94,8 @@ pub fn reverse_faces(
             }
         }
         sizes[k + j] = c as u64;
-        o = o + 12 + 3 * c;
-        q = q + 12 + 3 * c;
+        o = o + room::PLANE + 3 * c;
+        q = q + room::PLANE + 3 * c;
         j += 1;
     }
     Verdict::Fine
@@ -168,7 +168,7 @@ pub fn hollow_in(
     };
     let outer = corners_of(sizes, k, faces, dst, to);
     let inner = corners_of(counts, first, n, src, from);
-    let at = to + 12 * faces + 3 * outer;
+    let at = to + room::PLANE * faces + 3 * outer;
     let w = reverse_faces(t, src, from, counts, first, n, dst, at, sizes, k + faces);
     let Verdict::Fine = w else {
         return w;

@@ -53,6 +53,6 @@ hollowAt s counts n = record { outer = cellAt s 0 (countsAt counts 0 n); inner =
 -- what an offset works in, with room for a second shell behind the cell, and for the built cell in the slice of moved points
 pub record Yard (s : List Float) (counts : List ℕ) (n : ℕ) (by points : List Float) (places : List ℕ) (moved dst : List Float) (sizes ends head next seen work nodes cuts : List ℕ) : Type 0 where
   pub shop : Shop s counts n by points places moved dst sizes ends head next seen work nodes cuts
-  pub twice : 24 * n + 6 * corners 0 (cellAt s 0 (countsAt counts 0 n)) ≤ length s
+  pub twice : 26 * n + 6 * corners 0 (cellAt s 0 (countsAt counts 0 n)) ≤ length s
   pub slots : n + n ≤ length counts
-  pub floats : 12 * n + 3 * length places ≤ length moved
+  pub floats : 13 * n + 3 * length places ≤ length moved

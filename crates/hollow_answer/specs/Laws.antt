@@ -6,7 +6,7 @@ use Prim.Native.Nat.{ℕ, _+_, _*_, _≤_, _<_}
 use native.Mathlib.Omega.{arith}
 use lib.ListN.{length, take, drop, length-append, length-take}
 use lib.Seq.{sets, length-sets, sets-eq, take-at}
-use lib.Ieee.{Float}
+use lib.Ieee.{Float, nan}
 use Rattle.refusal.specs.declared.Refusal.{Refusal}
 use Rattle.refusal.specs.declared.Verdict.{Verdict}
 use Rattle.refusal.specs.declared.Verdict.the-variants as D
@@ -17,7 +17,7 @@ use Rattle.space.specs.Shapes.{Face, Cell, corners}
 use Rattle.polygon.specs.Memory.{pointAt, pointsAt}
 use Rattle.polygon.specs.MemoryLaws.{length-pointsAt}
 use Rattle.room.specs.Rooms.{cellFloats, cellCounts, faceAt, cellAt, countsAt, Within}
-use Rattle.room.specs.Laws.{corners-cons, corners-none, length-cellFloats, cell-stored, points-before, within-le, cell-counts, cell-faces, cellCounts-snoc}
+use Rattle.room.specs.Laws.{corners-cons, corners-none, length-cellFloats, cell-stored, getD-sets-before, points-before, within-le, cell-counts, cell-faces, cellCounts-snoc}
 use Rattle.words.specs.Little.{digits}
 use Rattle.solids.specs.Faces.{length-face}
 use Rattle.bounds.specs.Bounds.{against, Lies}
@@ -45,14 +45,14 @@ pub shell-size : (k : ℕ) (c : Cell) → length (shellAnswer k c) ≡ 5 + 100 *
 unfolding shellAnswer
 shell-size k c = omega (arith, length-append (digits 4 (length c)) (row facetAnswer c), length-count (length c), facets-size c)
 
-long-face : (f : Face) (c : Cell) → length (cellFloats (f ∷ c)) ≡ 12 + 3 * length (f .points) + length (cellFloats c)
+long-face : (f : Face) (c : Cell) → length (cellFloats (f ∷ c)) ≡ 13 + 3 * length (f .points) + length (cellFloats c)
 long-face f c = omega (arith, length-cellFloats (f ∷ c), length-cellFloats c, corners-cons f c)
 
 -- a cell that lies within k floats has no more
 floats-fit : (c : Cell) (at k : ℕ) → Within (cellCounts c) at k → at + length (cellFloats c) ≤ k
 unfolding Within cellCounts
 floats-fit [] at k w = omega (arith, w, length-cellFloats [], corners-none)
-floats-fit (f ∷ c) at k w = omega (arith, floats-fit c (at + 12 + 3 * length (f .points)) k (w .1), long-face f c)
+floats-fit (f ∷ c) at k w = omega (arith, floats-fit c (at + 13 + 3 * length (f .points)) k (w .1), long-face f c)
 
 -- ---- the body of two shells
 
@@ -60,36 +60,36 @@ module _ (s : List Float) (counts : List ℕ) (n : ℕ) (P : Pair s counts n) (o
   abbrev outer : Cell
   outer = cellAt s 0 (countsAt counts 0 n)
 
-  place-is : 12 * n + 3 * o ≡ behind 0 n (cellAt s 0 (countsAt counts 0 n))
+  place-is : 13 * n + 3 * o ≡ behind 0 n (cellAt s 0 (countsAt counts 0 n))
   place-is = omega (arith, eo)
 
-  pub body-inner : Lies s (12 * n + 3 * o) counts n n
+  pub body-inner : Lies s (13 * n + 3 * o) counts n n
   body-inner = subst (λ x. Lies s x counts n n) (sym place-is) (P .inner)
 
-  same-inner : cellAt s (12 * n + 3 * o) (countsAt counts n n) ≡ innerAt s counts n
+  same-inner : cellAt s (13 * n + 3 * o) (countsAt counts n n) ≡ innerAt s counts n
   same-inner = ap (λ x. cellAt s x (countsAt counts n n)) place-is
 
-  pub body-within : 12 * n + 3 * o ≤ length s
-  body-within = within-le (countsAt counts n n) (12 * n + 3 * o) (length s) (body-inner .within)
+  pub body-within : 13 * n + 3 * o ≤ length s
+  body-within = within-le (countsAt counts n n) (13 * n + 3 * o) (length s) (body-inner .within)
 
-  module _ (i : ℕ) (ei : i ≡ corners 0 (cellAt s (12 * n + 3 * o) (countsAt counts n n))) where
-    pub body-total : 24 * n + 3 * (o + i) ≤ length s
+  module _ (i : ℕ) (ei : i ≡ corners 0 (cellAt s (13 * n + 3 * o) (countsAt counts n n))) where
+    pub body-total : 26 * n + 3 * (o + i) ≤ length s
     body-total =
-        let c = cellAt s (12 * n + 3 * o) (countsAt counts n n) in
-        let w = floats-fit c (12 * n + 3 * o) (length s) (subst (λ l. Within l (12 * n + 3 * o) (length s)) (sym (cell-counts s (12 * n + 3 * o) (countsAt counts n n))) (body-inner .within)) in
-        omega (arith, w, length-cellFloats c, cell-faces s (12 * n + 3 * o) counts n n (P .inner .listed), ei)
+        let c = cellAt s (13 * n + 3 * o) (countsAt counts n n) in
+        let w = floats-fit c (13 * n + 3 * o) (length s) (subst (λ l. Within l (13 * n + 3 * o) (length s)) (sym (cell-counts s (13 * n + 3 * o) (countsAt counts n n))) (body-inner .within)) in
+        omega (arith, w, length-cellFloats c, cell-faces s (13 * n + 3 * o) counts n n (P .inner .listed), ei)
 
     one : length (shellAnswer 1 (cellAt s 0 (countsAt counts 0 n))) ≡ 5 + 100 * n + 24 * o
     one = omega (arith, shell-size 1 outer, cell-faces s 0 counts 0 n (P .outer .listed), eo)
 
-    two : length (shellAnswer 0 (cellAt s (12 * n + 3 * o) (countsAt counts n n))) ≡ 5 + 100 * n + 24 * i
-    two = omega (arith, shell-size 0 (cellAt s (12 * n + 3 * o) (countsAt counts n n)), cell-faces s (12 * n + 3 * o) counts n n (P .inner .listed), ei)
+    two : length (shellAnswer 0 (cellAt s (13 * n + 3 * o) (countsAt counts n n))) ≡ 5 + 100 * n + 24 * i
+    two = omega (arith, shell-size 0 (cellAt s (13 * n + 3 * o) (countsAt counts n n)), cell-faces s (13 * n + 3 * o) counts n n (P .inner .listed), ei)
 
     abbrev first : List ℕ
     first = shellAnswer 1 (cellAt s 0 (countsAt counts 0 n))
 
     abbrev second : List ℕ
-    second = shellAnswer 0 (cellAt s (12 * n + 3 * o) (countsAt counts n n))
+    second = shellAnswer 0 (cellAt s (13 * n + 3 * o) (countsAt counts n n))
 
     whole : hollowAnswer (hollowAt s counts n) ≡ digits 4 2 ++ (first ++ second)
     unfolding hollowAnswer
@@ -106,11 +106,11 @@ module _ (s : List Float) (counts : List ℕ) (n : ℕ) (P : Pair s counts n) (o
       body-first = omega (arith, h, one, ap length e1, length-sets a 0 (digits 4 2))
 
       module _ (m : ℕ) (em : m ≡ 4 + length (shellAnswer 1 (cellAt s 0 (countsAt counts 0 n)))) (a2 : List ℕ) (e2 : a2 ≡ sets a1 4 (shellAnswer 1 (cellAt s 0 (countsAt counts 0 n)))) where
-        pub body-second : m + length (shellAnswer 0 (cellAt s (12 * n + 3 * o) (countsAt counts n n))) ≤ length a2
+        pub body-second : m + length (shellAnswer 0 (cellAt s (13 * n + 3 * o) (countsAt counts n n))) ≤ length a2
         body-second = omega (arith, h, one, two, em, ap length e1, length-sets a 0 (digits 4 2), ap length e2, length-sets a1 4 first)
 
-        pub body-all : (e : ℕ) (a3 : List ℕ) (r : Ended) → e ≡ m + length (shellAnswer 0 (cellAt s (12 * n + 3 * o) (countsAt counts n n))) →
-            a3 ≡ sets a2 m (shellAnswer 0 (cellAt s (12 * n + 3 * o) (countsAt counts n n))) → r ≡ answered e → Handed (fitted (length a) (ok (hollowAnswer (hollowAt s counts n)))) a a3 r
+        pub body-all : (e : ℕ) (a3 : List ℕ) (r : Ended) → e ≡ m + length (shellAnswer 0 (cellAt s (13 * n + 3 * o) (countsAt counts n n))) →
+            a3 ≡ sets a2 m (shellAnswer 0 (cellAt s (13 * n + 3 * o) (countsAt counts n n))) → r ≡ answered e → Handed (fitted (length a) (ok (hollowAnswer (hollowAt s counts n)))) a a3 r
         body-all e a3 r ee e3 er =
             let p : a2 ≡ sets a 0 (digits 4 2 ++ first) = then-sets a a1 a2 0 4 (digits 4 2) first e1 e2 (omega (arith, length-count 2)) in
             let q : a3 ≡ sets a 0 ((digits 4 2 ++ first) ++ second) = then-sets a a2 a3 0 m (digits 4 2 ++ first) second p e3 (omega (arith, em, length-append (digits 4 2) first, length-count 2)) in
@@ -136,22 +136,23 @@ cell-before : (s : List Float) (at : ℕ) (ns : List ℕ) (j : ℕ) (vs : List F
 unfolding cellAt Within
 cell-before s at [] j vs w = refl
 cell-before s at (n ∷ ns) j vs w =
-    let k = within-le ns (at + 12 + 3 * n) j (w .1) in
+    let k = within-le ns (at + 13 + 3 * n) j (w .1) in
     let o = point-before s at j vs (omega (arith, k)) in
     let x = point-before s (at + 3) j vs (omega (arith, k)) in
     let y = point-before s (at + 6) j vs (omega (arith, k)) in
     let z = point-before s (at + 9) j vs (omega (arith, k)) in
-    let p = points-before s (at + 12) n j vs (omega (arith, k)) in
-    let r = cell-before s (at + 12 + 3 * n) ns j vs (w .1) in
-    λ i. record { plane = record { frame = record { origin = o i; x = x i; y = y i; z = z i } }; points = p i } ∷ r i
+    let m = getD-sets-before s j (at + 12) vs nan (omega (arith, k)) in
+    let p = points-before s (at + 13) n j vs (omega (arith, k)) in
+    let r = cell-before s (at + 13 + 3 * n) ns j vs (w .1) in
+    λ i. record { plane = record { frame = record { origin = o i; x = x i; y = y i; z = z i }; mark = m i }; points = p i } ∷ r i
 
 -- a cell lies within as many floats as it has
-pub within-ends : (l : List Float) (at : ℕ) (ns : List ℕ) (k j : ℕ) → Within ns at k → at + 12 * length ns + 3 * corners 0 (cellAt l at ns) ≤ j → Within ns at j
+pub within-ends : (l : List Float) (at : ℕ) (ns : List ℕ) (k j : ℕ) → Within ns at k → at + 13 * length ns + 3 * corners 0 (cellAt l at ns) ≤ j → Within ns at j
 unfolding Within cellAt
 within-ends l at [] k j w b = omega (arith, b)
 within-ends l at (c ∷ ns) k j w b =
-    let p = corners-cons (faceAt l at c) (cellAt l (at + 12 + 3 * c) ns) in
-    (w .0, within-ends l (at + 12 + 3 * c) ns k j (w .1) (omega (arith, b, p, length-pointsAt l (at + 12) c)))
+    let p = corners-cons (faceAt l at c) (cellAt l (at + 13 + 3 * c) ns) in
+    (w .0, within-ends l (at + 13 + 3 * c) ns k j (w .1) (omega (arith, b, p, length-pointsAt l (at + 13) c)))
 
 counts-before : (l : List ℕ) (n : ℕ) (v : List ℕ) → n + length v ≤ length l → countsAt (sets l n v) 0 n ≡ countsAt l 0 n
 counts-before l n v h =

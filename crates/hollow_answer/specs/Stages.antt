@@ -44,7 +44,7 @@ use Rattle.hollow_answer.specs.Calls.{builtCell, wallCall, shellCall, ho
 pub record Cavity (src : List Float) (sizes : List ℕ) (n : ℕ) (s : List Float) (counts : List ℕ) (points : List Float) (places : List ℕ) (faces : List Float) (ends head next seen work nodes cuts : List ℕ) : Type 0 where
   pub fits : Fits src sizes 0 0 n points places
   pub bench : Bench (length places) n ends head next seen work nodes cuts
-  pub floats : 12 * n + 3 * length places ≤ length faces
+  pub floats : 13 * n + 3 * length places ≤ length faces
   pub outer : Lies s 0 counts 0 n
   pub place : Place sizes 0 n s (behind 0 n (cellAt s 0 (countsAt counts 0 n))) counts (0 + n)
 
@@ -53,7 +53,7 @@ pub record Cavity (src : List Float) (sizes : List ℕ) (n : ℕ) (s : List Floa
 small-within : (c : Cell) (at m : ℕ) → Within (cellCounts c) at m → Small c
 unfolding Within cellCounts All
 small-within [] at m w = tt
-small-within (f ∷ c) at m w = (w .0, small-within c (at + 12 + 3 * length (f .points)) m (w .1))
+small-within (f ∷ c) at m w = (w .0, small-within c (at + 13 + 3 * length (f .points)) m (w .1))
 
 module _ (t : Precision) (limit : ℕ) (out : Cell) (src : List Float) (sizes : List ℕ) (n : ℕ) (p₀ : List Float) (i₀ : List ℕ) (fits : Fits src sizes 0 0 n p₀ i₀) (p : List Float) (i : List ℕ) (f : Counted)
     (S : Stored (built t (cellAt src 0 (countsAt sizes 0 n))) p₀ i₀ p i f) where
@@ -65,7 +65,7 @@ module _ (t : Precision) (limit : ℕ) (out : Cell) (src : List Float) (sizes : 
   shell-stops a x r e g =
       handed-not (shellCall t limit out cell) a a r x (stop (builtCell t cell) (wallCall t limit out cell) x (stop (built t cell) (cellOf t) x (stored-not (built t cell) p₀ i₀ p i f x S e))) g refl
 
-  module _ (m : ℕ) (e : f ≡ C.Made m) (l l′ : List Float) (room : 12 * n + 3 * length i₀ ≤ length l) (put : l′ ≡ sets l 0 (cellFloats (framed t (pointsAt p 0 m) (facesAt i 0 (countsAt sizes 0 n))))) where
+  module _ (m : ℕ) (e : f ≡ C.Made m) (l l′ : List Float) (room : 13 * n + 3 * length i₀ ≤ length l) (put : l′ ≡ sets l 0 (cellFloats (framed t (pointsAt p 0 m) (facesAt i 0 (countsAt sizes 0 n))))) where
     abbrev frames : Cell
     frames = framed t (pointsAt p 0 m) (facesAt i 0 (countsAt sizes 0 n))
 
@@ -135,7 +135,7 @@ module _ (t : Precision) (limit : ℕ) (w : Float) {s : List Float} {counts : Li
     place =
         let c = inner .0 in
         let k : corners 0 c ≡ corners 0 start = corners-same c start (offset-counts t (neg w) start c (inner .1)) in
-        let l : length (cellFloats c) ≡ 12 * n + 3 * corners 0 start = length-cellFloats c ∙ omega (arith, k, inner .2 .3) in
+        let l : length (cellFloats c) ≡ 13 * n + 3 * corners 0 start = length-cellFloats c ∙ omega (arith, k, inner .2 .3) in
         record {
           floats = subst
               (λ x. Within x (behind 0 n start) (length s))

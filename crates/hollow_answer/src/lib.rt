@@ -19,7 +19,7 @@ fn put_body(s: &[f64], counts: &[u64], n: usize, answer: &mut [u8]) -> Ended
     ensures { λ r. ⌜ Handed (fitted (length (now (answer .entry))) (ok (hollowAnswer (hollowAt (now (s .entry)) (now (counts .entry)) n)))) (now (answer .entry)) (now (answer .exit)) r ⌝ }
 {
     let outer = hollow::corners_of(counts, 0, n, s, 0);
-    let at = 12 * n + 3 * outer;
+    let at = room::PLANE * n + 3 * outer;
     let inner = hollow::corners_of(counts, n, n, s, at);
     if answer.len() < 14 + 200 * n + 24 * (outer + inner) {
         return ended::stop(refusal::refuse(12));

@@ -349,7 +349,7 @@ walking-start find s at counts first n p₀ i₀ f = record {
 
 -- what the next face asks
 pub record Asked (s : List Float) (p : List Float) (i : List ℕ) (m k o c : ℕ) : Type 0 where
-  pub floats : o + 12 + 3 * c ≤ length s
+  pub floats : o + 13 + 3 * c ≤ length s
   pub points : 3 * m + 3 * c ≤ length p
   pub places : k + c ≤ length i
   pub all : 3 * (k + c) ≤ length s
@@ -365,19 +365,19 @@ module _ {find : Search} {s : List Float} {at : ℕ} {counts : List ℕ} {first 
   opens : j < n → drop j (countsAt counts first n) ≡ getD counts (first + j) 0 ∷ drop (j + 1) (countsAt counts first n)
   opens h = next-count counts first n j h (fits .faces)
 
-  face : j < n → cellAt s o (drop j (countsAt counts first n)) ≡ faceAt s o (getD counts (first + j) 0) ∷ cellAt s (o + 12 + 3 * getD counts (first + j) 0) (drop (j + 1) (countsAt counts first n))
+  face : j < n → cellAt s o (drop j (countsAt counts first n)) ≡ faceAt s o (getD counts (first + j) 0) ∷ cellAt s (o + 13 + 3 * getD counts (first + j) 0) (drop (j + 1) (countsAt counts first n))
   face h = ap (cellAt s o) (opens h) ∙ cell-next s o (getD counts (first + j) 0) (drop (j + 1) (countsAt counts first n))
 
-  onwards : j < n → Within (drop (j + 1) (countsAt counts first n)) (o + 12 + 3 * getD counts (first + j) 0) (length s)
+  onwards : j < n → Within (drop (j + 1) (countsAt counts first n)) (o + 13 + 3 * getD counts (first + j) 0) (length s)
   onwards h = within-rest (getD counts (first + j) 0) (drop (j + 1) (countsAt counts first n)) o (length s) (rw (opens h) at (I .within))
 
-  lefts : j < n → k + (getD counts (first + j) 0 + corners 0 (cellAt s (o + 12 + 3 * getD counts (first + j) 0) (drop (j + 1) (countsAt counts first n)))) ≡ corners 0 (cellAt s at (countsAt counts first n))
+  lefts : j < n → k + (getD counts (first + j) 0 + corners 0 (cellAt s (o + 13 + 3 * getD counts (first + j) 0) (drop (j + 1) (countsAt counts first n)))) ≡ corners 0 (cellAt s at (countsAt counts first n))
   lefts h =
       let c = getD counts (first + j) 0 in
       let f = faceAt s o c in
-      let r = cellAt s (o + 12 + 3 * c) (drop (j + 1) (countsAt counts first n)) in
-      let a : corners 0 (cellAt s o (drop j (countsAt counts first n))) ≡ length (pointsAt s (o + 12) c) + corners 0 r = ap (corners 0) (face h) ∙ corners-cons f r in
-      omega (arith, I .left, length-pointsAt s (o + 12) c)
+      let r = cellAt s (o + 13 + 3 * c) (drop (j + 1) (countsAt counts first n)) in
+      let a : corners 0 (cellAt s o (drop j (countsAt counts first n))) ≡ length (pointsAt s (o + 13) c) + corners 0 r = ap (corners 0) (face h) ∙ corners-cons f r in
+      omega (arith, I .left, length-pointsAt s (o + 13) c)
 
   pub walking-asks : j < n → Asked s p i m k o (getD counts (first + j) 0)
   walking-asks h =
@@ -390,23 +390,23 @@ module _ {find : Search} {s : List Float} {at : ℕ} {counts : List ℕ} {first 
       let h : 3 * length (I .state .points) ≤ length p₀ = omega (arith, I .count, I .few, I .left, fits .points) in
       ap (λ z. pointsAt z 0 m) (I .points) ∙ ap (pointsAt (sets p₀ 0 (floatsOf (I .state .points))) 0) (I .count) ∙ points-stored p₀ (I .state .points) h
 
-  turn′ : j < n → walk (indexFace find) (I .state) (faceAt s o (getD counts (first + j) 0) ∷ cellAt s (o + 12 + 3 * getD counts (first + j) 0) (drop (j + 1) (countsAt counts first n))) ≡ indexFaces find (cellAt s at (countsAt counts first n))
+  turn′ : j < n → walk (indexFace find) (I .state) (faceAt s o (getD counts (first + j) 0) ∷ cellAt s (o + 13 + 3 * getD counts (first + j) 0) (drop (j + 1) (countsAt counts first n))) ≡ indexFaces find (cellAt s at (countsAt counts first n))
   turn′ h = ap (walk (indexFace find) (I .state)) (sym (face h)) ∙ I .rest
 
-  faced : {z : Outcome Places} (c : ℕ) → indexPoints find (pointsAt p 0 m) (pointsAt s (o + 12) c) ≡ z → indexPoints find (I .state .points) (pointsAt s (o + 12) c) ≡ z
-  faced c e = ap (λ l. indexPoints find l (pointsAt s (o + 12) c)) (sym held′) ∙ e
+  faced : {z : Outcome Places} (c : ℕ) → indexPoints find (pointsAt p 0 m) (pointsAt s (o + 13) c) ≡ z → indexPoints find (I .state .points) (pointsAt s (o + 13) c) ≡ z
+  faced c e = ap (λ l. indexPoints find l (pointsAt s (o + 13) c)) (sym held′) ∙ e
 
   pub walking-step : (p′ : List Float) (i′ : List ℕ) (e : ℕ) (r : Counted) → j < n → r ≡ C.Made e →
-      Placed (indexPoints find (pointsAt p 0 m) (pointsAt s (o + 12) (getD counts (first + j) 0))) m (getD counts (first + j) 0) k p i p′ i′ r →
-      Walking find s at counts first n p₀ i₀ p′ i′ e (k + getD counts (first + j) 0) (o + (12 + 3 * getD counts (first + j) 0)) (j + 1)
+      Placed (indexPoints find (pointsAt p 0 m) (pointsAt s (o + 13) (getD counts (first + j) 0))) m (getD counts (first + j) 0) k p i p′ i′ r →
+      Walking find s at counts first n p₀ i₀ p′ i′ e (k + getD counts (first + j) 0) (o + (13 + 3 * getD counts (first + j) 0)) (j + 1)
   unfolding indexFace
   walking-step p′ i′ e r h g f =
       let c = getD counts (first + j) 0 in
-      let z = placed-made (indexPoints find (pointsAt p 0 m) (pointsAt s (o + 12) c)) m c k p i p′ i′ r e f g in
+      let z = placed-made (indexPoints find (pointsAt p 0 m) (pointsAt s (o + 13) c)) m c k p i p′ i′ r e f g in
       let S = I .state in
       let P = z .0 in
-      let a : indexFace find S (faceAt s o c) ≡ ok (withFace S P) = go (indexPoints find (S .points) (pointsAt s (o + 12) c)) _ P (faced c (z .1)) in
-      let u : o + 12 + 3 * c ≡ o + (12 + 3 * c) = omega arith in
+      let a : indexFace find S (faceAt s o c) ≡ ok (withFace S P) = go (indexPoints find (S .points) (pointsAt s (o + 13) c)) _ P (faced c (z .1)) in
+      let u : o + 13 + 3 * c ≡ o + (13 + 3 * c) = omega arith in
       let q : length (floatsOf (S .points)) ≤ length (floatsOf (P .points)) = omega (arith, length-floatsOf (S .points), length-floatsOf (P .points), I .count, z .2, z .3) in
       let lf = lefts h in
       record {
@@ -425,13 +425,13 @@ module _ {find : Search} {s : List Float} {at : ℕ} {counts : List ℕ} {first 
       }
 
   pub walking-stop : (p′ : List Float) (i′ : List ℕ) (x : Refusal) (r : Counted) → j < n → r ≡ C.Refused x →
-      Placed (indexPoints find (pointsAt p 0 m) (pointsAt s (o + 12) (getD counts (first + j) 0))) m (getD counts (first + j) 0) k p i p′ i′ r →
+      Placed (indexPoints find (pointsAt p 0 m) (pointsAt s (o + 13) (getD counts (first + j) 0))) m (getD counts (first + j) 0) k p i p′ i′ r →
       Stored (indexFaces find (cellAt s at (countsAt counts first n))) p₀ i₀ p′ i′ r
   unfolding indexFace Stored
   walking-stop p′ i′ x r h g f =
       let c = getD counts (first + j) 0 in
-      let z = placed-not (indexPoints find (pointsAt p 0 m) (pointsAt s (o + 12) c)) m c k p i p′ i′ r x f g in
-      let a : indexFace find (I .state) (faceAt s o c) ≡ refused x = stop (indexPoints find (I .state .points) (pointsAt s (o + 12) c)) _ x (faced c (z .0)) in
+      let z = placed-not (indexPoints find (pointsAt p 0 m) (pointsAt s (o + 13) c)) m c k p i p′ i′ r x f g in
+      let a : indexFace find (I .state) (faceAt s o c) ≡ refused x = stop (indexPoints find (I .state .points) (pointsAt s (o + 13) c)) _ x (faced c (z .0)) in
       let y : indexFaces find (cellAt s at (countsAt counts first n)) ≡ refused x = sym (turn′ h) ∙ walk-stop (indexFace find) (I .state) _ _ x a in
       subst (λ w. Stored w p₀ i₀ p′ i′ r) (sym y) (g, z .1 ∙ walking-points, z .2 ∙ walking-places)
 

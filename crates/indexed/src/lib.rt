@@ -182,13 +182,13 @@ pub fn index_faces(
     let mut j = 0;
     while j < n {
         let c = counts[first + j] as usize;
-        let step = index_face(pick, t, s, o + 12, c, points, m, places, k);
+        let step = index_face(pick, t, s, o + room::PLANE, c, points, m, places, k);
         let Counted::Made(e) = step else {
             return step;
         };
         m = e;
         k += c;
-        o += 12 + 3 * c;
+        o += room::PLANE + 3 * c;
         j += 1;
     }
     Counted::Made(m)

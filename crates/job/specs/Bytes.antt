@@ -4,6 +4,7 @@ use Prim.Native.Nat.{ℕ, _+_, _≤_}
 use mathlib.Core.Path.{_≡_}
 use mathlib.Core.List.{List, [], _∷_, _++_, map}
 use lib.ListN.{length}
+use lib.Ieee.{binary64, ofBits}
 use Rattle.space.specs.declared.Point3.{Point3}
 use Rattle.space.specs.declared.Precision.{Precision}
 use Rattle.space.specs.declared.Plane.{Plane}
@@ -123,7 +124,7 @@ spotOf b i = record { x = floatAt b i; y = floatAt b (i + 8); z = floatAt b (i +
 
 -- origin, x, y, z
 unfoldable pub planeOf : List ℕ → Plane
-planeOf b = record { frame = record { origin = spotOf b 0; x = spotOf b 24; y = spotOf b 48; z = spotOf b 72 } }
+planeOf b = record { frame = record { origin = spotOf b 0; x = spotOf b 24; y = spotOf b 48; z = spotOf b 72 }; mark = ofBits binary64 0 }
 
 pub record IsFacet (l : List ℕ) (j : Facet) : Type 0 where
   pub tolerances : List ℕ

@@ -4,6 +4,7 @@ use mathlib.Core.Bool.{Bool, not, cond, _&&_}
 use mathlib.Core.List.{List, map}
 use lib.ListN.{length, drop, getD}
 use lib.Dec.{eqb, leb}
+use lib.Ieee.{binary64, ofBits}
 use Rattle.refusal.specs.Outcome.{Outcome, ok, refused, refuse, then, unless}
 use Rattle.space.specs.declared.Point3.{Point3}
 use Rattle.space.specs.declared.Precision.{Precision}
@@ -92,7 +93,7 @@ unfoldable pub spotAt : List ℕ → ℕ → Point3
 spotAt l at = record { x = floatAt l at; y = floatAt l (at + 8); z = floatAt l (at + 16) }
 
 unfoldable pub planeAt : List ℕ → ℕ → Plane
-planeAt l at = record { frame = record { origin = spotAt l at; x = spotAt l (at + 24); y = spotAt l (at + 48); z = spotAt l (at + 72) } }
+planeAt l at = record { frame = record { origin = spotAt l at; x = spotAt l (at + 24); y = spotAt l (at + 48); z = spotAt l (at + 72) }; mark = ofBits binary64 0 }
 
 unfoldable pub facetEnd : List ℕ → ℕ → Outcome FacetLayout
 facetEnd l n = unless (not (eqb (length l) (114 + 25 * n))) 1 (ok (record { precision = precisionAt l 1; plane = planeAt l 18; start = 114; points = n }))

@@ -297,6 +297,7 @@ fn plane_at(job: &[u8]) -> Plane
     let z = spot_at(job, 90);
     Plane {
         frame: Frame { origin, x, y, z },
+        mark: 0.0,
     }
 }
 

@@ -93,7 +93,7 @@ pub fn take_both(
     counts: &mut [u64],
 ) -> Pair
     requires { ⌜ Stood (now job) (y .first) × Stood (now job) (y .second) ⌝ }
-    requires { ⌜ (1920 ≤ length (now a)) × (64 ≤ length (now held)) × (1920 ≤ length (now b)) × (64 ≤ length (now counts)) ⌝ }
+    requires { ⌜ (1984 ≤ length (now a)) × (64 ≤ length (now held)) × (1984 ≤ length (now b)) × (64 ≤ length (now counts)) ⌝ }
     ensures { λ r. ⌜ TookBoth (bothOf (now (job .entry)) y) r (now (a .exit)) (now (held .exit)) (now (b .exit)) (now (counts .exit)) ⌝ }
 {
     let t = y.precision;

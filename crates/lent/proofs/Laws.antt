@@ -5,18 +5,19 @@ use mathlib.Core.List.{List}
 use Prim.Native.Nat.{_≤_, _<_}
 use lib.ListN.{length, set}
 use lib.Seq.{sets}
-use lib.Ieee.{Float}
+use lib.Ieee.{Float, binary64, ofBits}
 use borrow.Author.Tests.{lt-leb, le-leb, lt-ltb, le-ltb}
 use Rattle.refusal.specs.declared.Refusal.{Refusal}
 use Rattle.interval.specs.declared.Interval.{Interval}
 use Rattle.space.specs.declared.Point3.{Point3}
+use Rattle.space.specs.declared.Frame.{Frame}
 use Rattle.space.specs.declared.Plane.{Plane}
 use Rattle.space.specs.Vector.{origin}
 use Rattle.space.specs.declared.Planed.{Planed}
 use Rattle.space.specs.declared.Planed.the-variants.{Made, Refused}
 use Rattle.space.specs.Frames.{planed}
 use Rattle.polygon.specs.Memory.{floats, pointAt}
-use Rattle.room.specs.Rooms.{planeFloats, planeAt}
+use Rattle.room.specs.Rooms.{frameFloats, frameAt}
 use Rattle.lent.specs.Lent.{stored, pointBy, planeBy, flat, pointStored, planeStored, planeIn}
 
 pub fits : (s : List Float) (i : Interval) → 2 ≤ length s → set (set s 0 (i .lo)) 1 (i .hi) ≡ stored s i
@@ -35,13 +36,13 @@ pub point-short : (s : List Float) (p : Point3) → length s < 3 → s ≡ point
 unfolding pointStored
 point-short s p h = sym (ap (λ b. cond b (sets s 0 (floats p)) s) (lt-leb _ _ h))
 
-pub plane-fits : (s s′ : List Float) (w : Plane) → 12 ≤ length s → s′ ≡ sets s 0 (planeFloats w) → s′ ≡ planeStored s w
+pub plane-fits : (s s′ : List Float) (w : Plane) → 12 ≤ length s → s′ ≡ sets s 0 (frameFloats (w .frame)) → s′ ≡ planeStored s w
 unfolding planeStored
-plane-fits s s′ w h e = e ∙ sym (ap (λ b. cond b (sets s 0 (planeFloats w)) s) (le-leb _ _ h))
+plane-fits s s′ w h e = e ∙ sym (ap (λ b. cond b (sets s 0 (frameFloats (w .frame))) s) (le-leb _ _ h))
 
 pub plane-short : (s : List Float) (w : Plane) → length s < 12 → s ≡ planeStored s w
 unfolding planeStored
-plane-short s w h = sym (ap (λ b. cond b (sets s 0 (planeFloats w)) s) (lt-leb _ _ h))
+plane-short s w h = sym (ap (λ b. cond b (sets s 0 (frameFloats (w .frame))) s) (lt-leb _ _ h))
 
 pub point-read : (s : List Float) (p : Point3) → 3 ≤ length s → p ≡ pointAt s 0 → p ≡ pointBy s
 unfolding pointBy
@@ -51,13 +52,16 @@ pub point-none : (s : List Float) → length s < 3 → origin ≡ pointBy s
 unfolding pointBy
 point-none s h = sym (ap (λ b. cond b origin (pointAt s 0)) (lt-ltb _ _ h))
 
-pub plane-read : (s : List Float) (w : Plane) → 12 ≤ length s → w ≡ planeAt s 0 → w ≡ planeBy s
+abbrev unmarked : Frame → Plane
+unmarked f = record { frame = f; mark = ofBits binary64 0 }
+
+pub plane-read : (s : List Float) (f : Frame) → 12 ≤ length s → f ≡ frameAt s 0 → record { frame = f; mark = ofBits binary64 0 } ≡ planeBy s
 unfolding planeBy
-plane-read s w h e = e ∙ sym (ap (λ b. cond b flat (planeAt s 0)) (le-ltb _ _ h))
+plane-read s f h e = ap unmarked e ∙ sym (ap (λ b. cond b flat (unmarked (frameAt s 0))) (le-ltb _ _ h))
 
 pub plane-none : (s : List Float) (w : Plane) → length s < 12 → w ≡ flat → w ≡ planeBy s
 unfolding planeBy
-plane-none s w h e = e ∙ sym (ap (λ b. cond b flat (planeAt s 0)) (lt-ltb _ _ h))
+plane-none s w h e = e ∙ sym (ap (λ b. cond b flat (unmarked (frameAt s 0))) (lt-ltb _ _ h))
 
 -- what `plane_in` answers
 pub made-in : (p : Planed) (w : Plane) → p ≡ Made w → w ≡ planeIn (planed p)

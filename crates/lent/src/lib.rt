@@ -65,7 +65,7 @@ pub fn flat() -> Plane
         y: o,
         z: o,
     };
-    Plane { frame }
+    Plane { frame, mark: 0.0 }
 }
 
 pub fn plane_by(s: &[f64]) -> Plane
@@ -74,7 +74,8 @@ pub fn plane_by(s: &[f64]) -> Plane
     if s.len() < 12 {
         return flat();
     }
-    room::get_plane(s, 0)
+    let frame = room::get_frame(s, 0);
+    Plane { frame, mark: 0.0 }
 }
 
 pub fn put_point(out: &mut [f64], p: Point3)
@@ -89,7 +90,7 @@ pub fn put_plane(out: &mut [f64], w: Plane)
     ensures { λ _. ⌜ now (out .exit) ≡ planeStored (now (out .entry)) w ⌝ }
 {
     if 12 <= out.len() {
-        room::put_plane(out, 0, w);
+        room::put_frame(out, 0, w.frame);
     }
 }
 

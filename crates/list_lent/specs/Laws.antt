@@ -135,31 +135,31 @@ module _ (room k : ℕ) (d : List Float) (n z : List ℕ) (r : Stack) where
 
         pub lent-counts : length n < f → r ≡ stackOf (refused (refusalOf 64)) → Listed room (listIn room k d n z) r d n z
         unfolding facesStand
-        lent-counts a h = none (from-faces false (ap (λ b. b && (sums 3 128 room (take f n) && leb (12 * f + 3 * total (take f n)) (length d))) (lt-leb f (length n) a))) h
+        lent-counts a h = none (from-faces false (ap (λ b. b && (sums 3 128 room (take f n) && leb (13 * f + 3 * total (take f n)) (length d))) (lt-leb f (length n) a))) h
 
         module _ (within : f ≤ length n) (c : ℕ) (sum : c ≡ totalBy 3 128 room (take f n)) where
-          from-counts : (b : Bool) → (sums 3 128 room (take f n) && leb (12 * f + 3 * total (take f n)) (length d)) ≡ b → stands room k d n z ≡ b
+          from-counts : (b : Bool) → (sums 3 128 room (take f n) && leb (13 * f + 3 * total (take f n)) (length d)) ≡ b → stands room k d n z ≡ b
           unfolding facesStand
-          from-counts b e = from-faces b (ap (λ b. b && (sums 3 128 room (take f n) && leb (12 * f + 3 * total (take f n)) (length d))) (le-leb f (length n) within) ∙ e)
+          from-counts b e = from-faces b (ap (λ b. b && (sums 3 128 room (take f n) && leb (13 * f + 3 * total (take f n)) (length d))) (le-leb f (length n) within) ∙ e)
 
           pub lent-corners : room < c → r ≡ stackOf (refused (refusalOf 64)) → Listed room (listIn room k d n z) r d n z
-          lent-corners a h = none (from-counts false (ap (λ b. b && leb (12 * f + 3 * total (take f n)) (length d)) (total-over 3 128 room (take f n) c sum a))) h
+          lent-corners a h = none (from-counts false (ap (λ b. b && leb (13 * f + 3 * total (take f n)) (length d)) (total-over 3 128 room (take f n) c sum a))) h
 
           module _ (fit : c ≤ room) where
-            from-floats : (b : Bool) → leb (12 * f + 3 * c) (length d) ≡ b → stands room k d n z ≡ b
+            from-floats : (b : Bool) → leb (13 * f + 3 * c) (length d) ≡ b → stands room k d n z ≡ b
             from-floats b e =
                 let t = total-fits 3 128 room (take f n) c sum fit in
-                from-counts b (ap (λ b. b && leb (12 * f + 3 * total (take f n)) (length d)) (t .0) ∙ ap (λ j. leb (12 * f + 3 * j) (length d)) (t .1) ∙ e)
+                from-counts b (ap (λ b. b && leb (13 * f + 3 * total (take f n)) (length d)) (t .0) ∙ ap (λ j. leb (13 * f + 3 * j) (length d)) (t .1) ∙ e)
 
-            pub lent-floats : length d < 12 * f + 3 * c → r ≡ stackOf (refused (refusalOf 64)) → Listed room (listIn room k d n z) r d n z
-            lent-floats a h = none (from-floats false (lt-leb (12 * f + 3 * c) (length d) a)) h
+            pub lent-floats : length d < 13 * f + 3 * c → r ≡ stackOf (refused (refusalOf 64)) → Listed room (listIn room k d n z) r d n z
+            lent-floats a h = none (from-floats false (lt-leb (13 * f + 3 * c) (length d) a)) h
 
-            pub lent-list : 12 * f + 3 * c ≤ length d → r ≡ record { verdict = Fine; cells = k; faces = f; corners = c } → Listed room (listIn room k d n z) r d n z
+            pub lent-list : 13 * f + 3 * c ≤ length d → r ≡ record { verdict = Fine; cells = k; faces = f; corners = c } → Listed room (listIn room k d n z) r d n z
             unfolding listIn sums
             lent-list a h =
                 let s = total-fits 1 128 room (take k z) f is few in
                 let t = total-fits 3 128 room (take f n) c sum fit in
-                let e : listIn room k d n z ≡ ok (cellsAt d 0 n (take k z)) = ap (λ b. unless (not b) 64 (ok (cellsAt d 0 n (take k z)))) (from-floats true (le-leb (12 * f + 3 * c) (length d) a)) in
+                let e : listIn room k d n z ≡ ok (cellsAt d 0 n (take k z)) = ap (λ b. unless (not b) 64 (ok (cellsAt d 0 n (take k z)))) (from-floats true (le-leb (13 * f + 3 * c) (length d) a)) in
                 let L : Lies room (cellsAt d 0 n (take k z)) d n z =
                 lying room d n z k f c many within (and-true (allAmong 1 128 (take k z)) (leb (total (take k z)) room) (s .0) .0) (s .1) (and-true (allAmong 3 128 (take f n)) (leb (total (take f n)) room) (t .0) .0) (t .1) fit a in
                 record { is = h ∙ sym (list-told d n z k f c many within (s .1) (t .1)) ∙ ap stackOf (sym e); lies = λ cs g. subst (λ x. Lies room x d n z) (same-ok (sym e ∙ g)) L }

@@ -30,7 +30,7 @@ totalBy low high most l = cond (sums low high most l) (total l) (most + 1)
 
 -- the faces of k cells, and the floats of so many faces, lie within their slices; a cell has 1 to 128 faces, a face 3 to 128 corners
 unfoldable pub facesStand : ℕ → ℕ → List Float → List ℕ → Bool
-facesStand room f d n = leb f (length n) && (sums 3 128 room (take f n) && leb (12 * f + 3 * total (take f n)) (length d))
+facesStand room f d n = leb f (length n) && (sums 3 128 room (take f n) && leb (13 * f + 3 * total (take f n)) (length d))
 
 unfoldable pub stands : ℕ → ℕ → List Float → List ℕ → List ℕ → Bool
 stands room k d n z = leb room 4294967296 && (leb k (length z) && (sums 1 128 room (take k z) && facesStand room (total (take k z)) d n))

@@ -5,7 +5,7 @@ use mathlib.Core.List.{List, [], _∷_, _++_}
 use Prim.Native.Nat.{ℕ, suc, _+_, _*_, _≤_}
 use native.Mathlib.Omega.{arith}
 use native.Mathlib.Numerals.{add-one, add-two}
-use lib.ListN.{length, take, drop, length-append, length-drop, take-append-drop}
+use lib.ListN.{length, take, drop, length-append, length-drop, take-append-drop, set, getD}
 use lib.Seq.{sets, sets-eq, set-getD, take-add, length-take-le}
 use lib.Dec.{leb}
 use lib.Ieee.{Float, nan}
@@ -17,8 +17,8 @@ use Rattle.space.specs.Shapes.{Cell, corners, allCorners}
 use Rattle.polygon.specs.Memory.{floats, floatsOf, pointAt, pointsAt}
 use Rattle.polygon.specs.Members.{All}
 use Rattle.polygon.specs.MemoryLaws.{length-pointsAt}
-use Rattle.room.specs.Rooms.{planeFloats, planeAt, faceFloats, faceAt, cellFloats, cellCounts, cellAt, Small}
-use Rattle.room.specs.Laws.{sets-append, sets-plane, length-floatsOf, corners-cons, corners-none, cell-counts, length-cellAt}
+use Rattle.room.specs.Rooms.{frameFloats, frameAt, planeFloats, planeAt, faceFloats, faceAt, cellFloats, cellCounts, cellAt, Small}
+use Rattle.room.specs.Laws.{sets-append, sets-frame, sets-plane, length-floatsOf, corners-cons, corners-none, cell-counts, length-cellAt}
 use Rattle.clip.specs.Clips.{Wide}
 use Rattle.indexed.specs.Laws.{points-kept}
 use Rattle.stack.specs.Stacks.{cellsFloats, cellsCounts, cellsSizes, behind, cellsAt, stackOf, Front, Sound, Lies}
@@ -60,28 +60,32 @@ cells-corners (c ∷ cs) = omega (arith, all-corners-from (0 + corners 0 c) cs, 
 point-kept : (s : List Float) (i : ℕ) → sets s i (floats (pointAt s i)) ≡ s
 point-kept s i = rw (add-one, add-two, set-getD s i nan, set-getD s (suc i) nan) (set-getD s (suc (suc i)) nan)
 
-plane-kept : (s : List Float) (at : ℕ) → sets s at (planeFloats (planeAt s at)) ≡ s
-plane-kept s at =
-    sym (sets-plane s at (pointAt s at) (pointAt s (at + 3)) (pointAt s (at + 6)) (pointAt s (at + 9)))
+frame-kept : (s : List Float) (at : ℕ) → sets s at (frameFloats (frameAt s at)) ≡ s
+frame-kept s at =
+    sym (sets-frame s at (pointAt s at) (pointAt s (at + 3)) (pointAt s (at + 6)) (pointAt s (at + 9)))
     ∙ ap (λ l. sets (sets (sets l (at + 3) (floats (pointAt s (at + 3)))) (at + 6) (floats (pointAt s (at + 6)))) (at + 9) (floats (pointAt s (at + 9)))) (point-kept s at)
     ∙ ap (λ l. sets (sets l (at + 6) (floats (pointAt s (at + 6)))) (at + 9) (floats (pointAt s (at + 9)))) (point-kept s (at + 3))
     ∙ ap (λ l. sets l (at + 9) (floats (pointAt s (at + 9)))) (point-kept s (at + 6))
     ∙ point-kept s (at + 9)
 
+plane-kept : (s : List Float) (at : ℕ) → sets s at (planeFloats (planeAt s at)) ≡ s
+plane-kept s at =
+    sym (sets-plane s at (planeAt s at)) ∙ ap (λ l. set l (at + 12) (getD s (at + 12) nan)) (frame-kept s at) ∙ set-getD s (at + 12) nan
+
 face-kept : (s : List Float) (at n : ℕ) → sets s at (faceFloats (faceAt s at n)) ≡ s
 face-kept s at n =
-    sym (sets-append s at (planeFloats (planeAt s at)) (floatsOf (pointsAt s (at + 12) n)))
-    ∙ ap (λ l. sets l (at + 12) (floatsOf (pointsAt s (at + 12) n))) (plane-kept s at)
-    ∙ points-kept s (at + 12) n
+    sym (sets-append s at (planeFloats (planeAt s at)) (floatsOf (pointsAt s (at + 13) n)))
+    ∙ ap (λ l. sets l (at + 13) (floatsOf (pointsAt s (at + 13) n))) (plane-kept s at)
+    ∙ points-kept s (at + 13) n
 
 cell-kept : (s : List Float) (at : ℕ) (ns : List ℕ) → sets s at (cellFloats (cellAt s at ns)) ≡ s
 unfolding cellAt cellFloats
 cell-kept s at [] = refl
 cell-kept s at (n ∷ ns) =
-    let e : at + length (faceFloats (faceAt s at n)) ≡ at + 12 + 3 * n = omega (arith, length-append (planeFloats (planeAt s at)) (floatsOf (pointsAt s (at + 12) n)), length-floatsOf (pointsAt s (at + 12) n), length-pointsAt s (at + 12) n) in
-    sym (sets-append s at (faceFloats (faceAt s at n)) (cellFloats (cellAt s (at + 12 + 3 * n) ns)))
-    ∙ ap₂ (λ l k. sets l k (cellFloats (cellAt s (at + 12 + 3 * n) ns))) (face-kept s at n) e
-    ∙ cell-kept s (at + 12 + 3 * n) ns
+    let e : at + length (faceFloats (faceAt s at n)) ≡ at + 13 + 3 * n = omega (arith, length-append (planeFloats (planeAt s at)) (floatsOf (pointsAt s (at + 13) n)), length-floatsOf (pointsAt s (at + 13) n), length-pointsAt s (at + 13) n) in
+    sym (sets-append s at (faceFloats (faceAt s at n)) (cellFloats (cellAt s (at + 13 + 3 * n) ns)))
+    ∙ ap₂ (λ l k. sets l k (cellFloats (cellAt s (at + 13 + 3 * n) ns))) (face-kept s at n) e
+    ∙ cell-kept s (at + 13 + 3 * n) ns
 
 cells-kept : (s : List Float) (at : ℕ) (n ms : List ℕ) → sets s at (cellsFloats (cellsAt s at n ms)) ≡ s
 unfolding cellsAt cellsFloats
@@ -107,8 +111,8 @@ unfolding cellAt All allAmong among
 cell-bounds d at [] e = (tt, tt)
 cell-bounds d at (n ∷ ns) e =
     let h = and-true (leb 3 n && leb n 128) (allAmong 3 128 ns) e .0 in
-    let g = cell-bounds d (at + 12 + 3 * n) ns (and-true (leb 3 n && leb n 128) (allAmong 3 128 ns) e .1) in
-    let l = length-pointsAt d (at + 12) n in
+    let g = cell-bounds d (at + 13 + 3 * n) ns (and-true (leb 3 n && leb n 128) (allAmong 3 128 ns) e .1) in
+    let l = length-pointsAt d (at + 13) n in
     ((omega (arith, l, leb-true 3 n (and-true (leb 3 n) (leb n 128) h .0)), g .0), (omega (arith, l, leb-true n 128 (and-true (leb 3 n) (leb n 128) h .1)), g .1))
 
 cells-sound : (d : List Float) (at : ℕ) (n ms : List ℕ) → total ms ≤ length n → allAmong 1 128 ms ≡ true → allAmong 3 128 (take (total ms) n) ≡ true → All Sound (cellsAt d at n ms)
@@ -155,7 +159,7 @@ module _ (d : List Float) (n z : List ℕ) (k f c : ℕ) (many : k ≤ length z)
     list-told = ap (λ x. record { verdict = Fine; cells = x; faces = length (cellsCounts cs); corners = allCorners 0 cs }) listed ∙ ap₂ (λ x y. record { verdict = Fine; cells = k; faces = x; corners = y }) faced cornered
 
 pub lying : (room : ℕ) (d : List Float) (n z : List ℕ) (k f c : ℕ) → k ≤ length z → f ≤ length n → allAmong 1 128 (take k z) ≡ true → total (take k z) ≡ f → allAmong 3 128 (take f n) ≡ true → total (take f n) ≡ c →
-    c ≤ room → 12 * f + 3 * c ≤ length d → Lies room (cellsAt d 0 n (take k z)) d n z
+    c ≤ room → 13 * f + 3 * c ≤ length d → Lies room (cellsAt d 0 n (take k z)) d n z
 lying room d n z k f c many within sizes faces counts sum fit floats =
     let cs = cellsAt d 0 n (take k z) in
     let a = cornered d n z k f c many within faces sum in

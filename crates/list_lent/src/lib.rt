@@ -65,7 +65,7 @@ pub fn list_in(limit: usize, cells: usize, d: &[f64], counts: &[u64], sizes: &[u
     if limit < corners {
         return none();
     }
-    if d.len() < 12 * faces + 3 * corners {
+    if d.len() < room::PLANE * faces + 3 * corners {
         return none();
     }
     Stack {

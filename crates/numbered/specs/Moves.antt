@@ -47,7 +47,7 @@ points-numbered t ms x qs (p ∷ ps) = numbered-then (numbered-more tt (at-numbe
 
 face-numbered : (t : Precision) (qs : List Point3) (m : Moving) → Numbered 5 (moveFace t qs m)
 unfolding moveFace movedPlane
-face-numbered t qs m = numbered-then (plane-numbered t _ _ _) (λ w. answer _)
+face-numbered t qs m = numbered-then (numbered-then (plane-numbered t _ _ _) (λ v. answer _)) (λ w. answer _)
 
 -- ---- the corners of a cell against planes
 

@@ -41,7 +41,7 @@ face-plane-numbered t a b c = plane-numbered t a _ _
 
 pub opposite-numbered : (t : Precision) (w : Plane) → Numbered 5 (oppositeOf t w)
 unfolding oppositeOf
-opposite-numbered t w = plane-numbered t _ _ _
+opposite-numbered t w = numbered-then (plane-numbered t _ _ _) (λ v. answer _)
 
 -- ---- sides
 

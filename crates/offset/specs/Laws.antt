@@ -63,7 +63,7 @@ module _ {s : List Float} {at : ℕ} {counts : List ℕ} {first n : ℕ} {by : L
   this : drop j (countsAt counts first n) ≡ getD counts (first + j) 0 ∷ drop (j + 1) (countsAt counts first n)
   this = next-count counts first n j h (given .lies .listed)
 
-  pub along-inside : o + 12 + 3 * getD counts (first + j) 0 ≤ length s
+  pub along-inside : o + 13 + 3 * getD counts (first + j) 0 ≤ length s
   along-inside = ahead-inside s counts first n o j (given .lies .listed) h (a .ahead)
 
   after : Placing (drop (j + 1) (countsAt counts first n)) (k + getD counts (first + j) 0) (length i)
@@ -73,11 +73,11 @@ module _ {s : List Float} {at : ℕ} {counts : List ℕ} {first n : ℕ} {by : L
   pub along-few : k + getD counts (first + j) 0 ≤ length i
   along-few = placing-le _ _ _ after
 
-  pub along-step : Along s counts first n i (o + 12 + 3 * getD counts (first + j) 0) (k + getD counts (first + j) 0) (j + 1)
+  pub along-step : Along s counts first n i (o + 13 + 3 * getD counts (first + j) 0) (k + getD counts (first + j) 0) (j + 1)
   along-step = record { ahead = ahead-next s counts first n o j (given .lies .listed) h (a .ahead); left = after }
 
   pub along-next : onward s counts first n by i o k j ≡
-      movingFace s by i o k (getD counts (first + j) 0) j ∷ onward s counts first n by i (o + 12 + 3 * getD counts (first + j) 0) (k + getD counts (first + j) 0) (j + 1)
+      movingFace s by i o k (getD counts (first + j) 0) j ∷ onward s counts first n by i (o + 13 + 3 * getD counts (first + j) 0) (k + getD counts (first + j) 0) (j + 1)
   unfolding moving facesAt cellAt
   along-next =
       ap (λ ns. moving (cellAt s o ns) (facesAt i k ns) (drop j (take n by))) this
@@ -107,11 +107,11 @@ module _ {s : List Float} {at : ℕ} {counts : List ℕ} {first n : ℕ} {by : L
 
   pub gathering-step : (u : Point3) (b : Bool) (m′ : Meeting) → Source s at counts first n by i → j < n →
       u ≡ pointAt s (o + 9) → b ≡ has x false (countsAt i k (getD counts (first + j) 0)) → m′ ≡ notedIf b m (record { normal = u; by = getD by j nan }) →
-      Gathering s at counts first n by i x m′ (o + 12 + 3 * getD counts (first + j) 0) (k + getD counts (first + j) 0) (j + 1)
+      Gathering s at counts first n by i x m′ (o + 13 + 3 * getD counts (first + j) 0) (k + getD counts (first + j) 0) (j + 1)
   unfolding pushes
   gathering-step u b m′ g h eu eb em =
       let p : Float → Point3 → Push = λ f y. record { normal = y; by = f } in
-      let r = onward s counts first n by i (o + 12 + 3 * getD counts (first + j) 0) (k + getD counts (first + j) 0) (j + 1) in
+      let r = onward s counts first n by i (o + 13 + 3 * getD counts (first + j) 0) (k + getD counts (first + j) 0) (j + 1) in
       record {
         along = along-step g h (I .along);
         list = pushIf b (I .list) (p (getD by j nan) u);
@@ -202,12 +202,12 @@ module _ {i : List ℕ} {k c : ℕ} {qs : List Point3} {d₀ : List Float} {to :
 -- ---- one face
 
 module _ (t : Precision) (qs : List Point3) (m : Moving) (to : ℕ) (d₀ d : List Float) (v : Verdict) where
-  pub face-moved : (w : Plane) (e : List Float) → movedPlane t (m .face .plane) (m .by) ≡ ok w → v ≡ D.Fine → e ≡ sets d₀ to (planeFloats w) → d ≡ sets e (to + 12) (floatsOf (map (pointOf qs) (m .places))) →
+  pub face-moved : (w : Plane) (e : List Float) → movedPlane t (m .face .plane) (m .by) ≡ ok w → v ≡ D.Fine → e ≡ sets d₀ to (planeFloats w) → d ≡ sets e (to + 13) (floatsOf (map (pointOf qs) (m .places))) →
       FaceMoved (moveFace t qs m) to d₀ d v
   unfolding moveFace FaceMoved
   face-moved w e p u f g =
       subst (λ y. FaceMoved (then y (λ w. ok (record { plane = w; points = map (pointOf qs) (m .places) }))) to d₀ d v) (sym p)
-      (u, g ∙ ap (λ y. sets y (to + 12) (floatsOf (map (pointOf qs) (m .places)))) f ∙ sets-append d₀ to (planeFloats w) (floatsOf (map (pointOf qs) (m .places))))
+      (u, g ∙ ap (λ y. sets y (to + 13) (floatsOf (map (pointOf qs) (m .places)))) f ∙ sets-append d₀ to (planeFloats w) (floatsOf (map (pointOf qs) (m .places))))
 
   pub face-refused : (r : Refusal) → movedPlane t (m .face .plane) (m .by) ≡ refused r → v ≡ D.Refused r → length d ≡ length d₀ → FaceMoved (moveFace t qs m) to d₀ d v
   unfolding moveFace FaceMoved
@@ -234,7 +234,7 @@ moved-corners t qs m f e =
 
 pub record Grown (d₀ : List Float) (to : ℕ) (n₀ : List ℕ) (k : ℕ) (cell : Cell) (d : List Float) (ns : List ℕ) (q j : ℕ) : Type 0 where
   pub faces : length cell ≡ j
-  pub place : q ≡ to + 12 * j + 3 * corners 0 cell
+  pub place : q ≡ to + 13 * j + 3 * corners 0 cell
   pub floats : d ≡ sets d₀ to (cellFloats cell)
   pub counts : ns ≡ sets n₀ k (cellCounts cell)
   pub small : Small cell
@@ -244,7 +244,7 @@ unfolding cellFloats cellCounts
 grown-none d to n k = record { faces = refl; place = omega (arith, corners-none); floats = refl; counts = refl; small = all-none _ }
 
 pub grown-more : {d₀ : List Float} {to : ℕ} {n₀ : List ℕ} {k : ℕ} {cell : Cell} {d : List Float} {ns : List ℕ} {q j : ℕ} (f : Face) (c : ℕ) (d′ : List Float) (ns′ : List ℕ) →
-    length (f .points) ≡ c → c ≤ 128 → d′ ≡ sets d q (faceFloats f) → ns′ ≡ set ns (k + j) c → Grown d₀ to n₀ k cell d ns q j → Grown d₀ to n₀ k (cell ++ (f ∷ [])) d′ ns′ (q + 12 + 3 * c) (j + 1)
+    length (f .points) ≡ c → c ≤ 128 → d′ ≡ sets d q (faceFloats f) → ns′ ≡ set ns (k + j) c → Grown d₀ to n₀ k cell d ns q j → Grown d₀ to n₀ k (cell ++ (f ∷ [])) d′ ns′ (q + 13 + 3 * c) (j + 1)
 grown-more {d₀} {to} {n₀} {k} {cell} {d} {ns} {q} {j} f c d′ ns′ e h ed en g = record {
   faces = length-append cell (f ∷ []) ∙ omega (arith, g .faces);
   place = omega (arith, g .place, corners-snoc cell f);
@@ -280,12 +280,12 @@ module _ {A : Type 0} {f : A → Outcome Face} {whole : List A} {counts : List �
     here : Within (getD counts (first + j) 0 ∷ drop (j + 1) (countsAt counts first n)) q (length d₀)
     here = rw (next-count counts first n j h listed) at (I .within)
 
-    pub listing-fits : q + 12 + 3 * getD counts (first + j) 0 ≤ length d
+    pub listing-fits : q + 13 + 3 * getD counts (first + j) 0 ≤ length d
     listing-fits = omega (arith, listing-size, within-le _ _ _ (within-rest (getD counts (first + j) 0) (drop (j + 1) (countsAt counts first n)) q (length d₀) here))
 
     pub listing-step : (x : A) (l : List A) (d′ : List Float) (ns′ : List ℕ) (v : Verdict) → rest ≡ x ∷ l → FaceMoved (f x) q d d′ v → v ≡ D.Fine →
         ((g : Face) → f x ≡ ok g → length (g .points) ≡ getD counts (first + j) 0) → ns′ ≡ set ns (k + j) (getD counts (first + j) 0) →
-        Listing f whole counts first n d₀ to n₀ k d′ ns′ (q + 12 + 3 * getD counts (first + j) 0) (j + 1) l
+        Listing f whole counts first n d₀ to n₀ k d′ ns′ (q + 13 + 3 * getD counts (first + j) 0) (j + 1) l
     listing-step x l d′ ns′ v r m e w u =
         let g = face-made (f x) q d d′ v m e in
         record {
@@ -324,7 +324,7 @@ building-start g h = record { along = along-start g; listing = listing-start _ _
 module _ {t : Precision} {qs : List Point3} {s : List Float} {at : ℕ} {counts : List ℕ} {first n : ℕ} {by : List Float} {i : List ℕ} {d₀ : List Float} {to : ℕ} {n₀ : List ℕ} {k : ℕ}
     {d : List Float} {ns : List ℕ} {o p q j : ℕ} (I : Building t qs s at counts first n by i d₀ to n₀ k d ns o p q j) (given : Source s at counts first n by i) where
   module _ (h : j < n) where
-    pub building-fits : q + 12 + 3 * getD counts (first + j) 0 ≤ length d
+    pub building-fits : q + 13 + 3 * getD counts (first + j) 0 ≤ length d
     building-fits = listing-fits (I .listing) (given .lies .listed) h
 
     sized : (g : Face) → moveFace t qs (movingFace s by i o p (getD counts (first + j) 0) j) ≡ ok g → length (g .points) ≡ getD counts (first + j) 0
@@ -333,7 +333,7 @@ module _ {t : Precision} {qs : List Point3} {s : List Float} {at : ℕ} {counts 
         ∙ length-take (getD counts (first + j) 0) (drop p i) ∙ omega (arith, length-drop p i, along-few given h (I .along))
 
     pub building-step : (d′ : List Float) (ns′ : List ℕ) (v : Verdict) → FaceMoved (moveFace t qs (movingFace s by i o p (getD counts (first + j) 0) j)) q d d′ v → v ≡ D.Fine → ns′ ≡ set ns (k + j) (getD counts (first + j) 0) →
-        Building t qs s at counts first n by i d₀ to n₀ k d′ ns′ (o + 12 + 3 * getD counts (first + j) 0) (p + getD counts (first + j) 0) (q + 12 + 3 * getD counts (first + j) 0) (j + 1)
+        Building t qs s at counts first n by i d₀ to n₀ k d′ ns′ (o + 13 + 3 * getD counts (first + j) 0) (p + getD counts (first + j) 0) (q + 13 + 3 * getD counts (first + j) 0) (j + 1)
     building-step d′ ns′ v m e u = record {
       along = along-step given h (I .along);
       listing = listing-step (I .listing) (given .lies .listed) h (movingFace s by i o p (getD counts (first + j) 0) j) _ d′ ns′ v (along-next given h (I .along)) m e sized u;

@@ -39,7 +39,7 @@ FaceMoved (refused r) to d₀ d v = (v ≡ Refused r) × (length d ≡ length d�
 -- after a cell of n faces: its floats and its counts stand from two places on; a refusal leaves only the lengths as they were
 unfoldable pub CellMoved : Outcome Cell → ℕ → List Float → ℕ → List ℕ → ℕ → List Float → List ℕ → Verdict → Type 0
 CellMoved (ok c) n d₀ to n₀ k d ns v =
-    (v ≡ Fine) × (d ≡ sets d₀ to (cellFloats c)) × (ns ≡ sets n₀ k (cellCounts c)) × (length c ≡ n) × (to + 12 * n + 3 * corners 0 c ≤ length d₀) × Small c
+    (v ≡ Fine) × (d ≡ sets d₀ to (cellFloats c)) × (ns ≡ sets n₀ k (cellCounts c)) × (length c ≡ n) × (to + 13 * n + 3 * corners 0 c ≤ length d₀) × Small c
 CellMoved (refused r) n d₀ to n₀ k d ns v = (v ≡ Refused r) × (length d ≡ length d₀) × (length ns ≡ length n₀)
 
 -- a place for a cell with as many corners in each face

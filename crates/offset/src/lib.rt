@@ -16,7 +16,7 @@ ghost use Rattle.float.specs.Float.{finite};
 ghost use Rattle.refusal.specs.Outcome.{each};
 ghost use Rattle.lists.specs.Walks.{all};
 ghost use Rattle.polygon.specs.Memory.{floatsOf, pointsAt};
-ghost use Rattle.room.specs.Rooms.{faceAt, cellAt, countsAt};
+ghost use Rattle.room.specs.Rooms.{planeSize, faceAt, cellAt, countsAt};
 ghost use Rattle.solids.specs.Frames.{pointOf};
 ghost use Rattle.shift.specs.Shifts.{meeting};
 ghost use Rattle.offset.specs.Offsets.{pushes, movePoints, moveFace, moveAll, offsetDistances, offsetCell};
@@ -60,7 +60,7 @@ fn meeting_at(
         let p = Push { normal, by: by[j] };
         let meets = solids::is_corner(places, k, c, x);
         m = shift::note_if(meets, m, p);
-        o = o + 12 + 3 * c;
+        o = o + room::PLANE + 3 * c;
         k += c;
         j += 1;
     }
@@ -139,7 +139,7 @@ fn move_face(
     dst: &mut [f64],
     to: usize,
 ) -> Verdict
-    requires { ⌜ (o + 12 + 3 * c ≤ length (now s)) × (p + c ≤ length (now places)) × (3 * m ≤ length (now moved)) × (to + 12 + 3 * c ≤ length (now dst)) ⌝ }
+    requires { ⌜ (o + planeSize + 3 * c ≤ length (now s)) × (p + c ≤ length (now places)) × (3 * m ≤ length (now moved)) × (to + planeSize + 3 * c ≤ length (now dst)) ⌝ }
     ensures { λ r. ⌜ FaceMoved (moveFace t (pointsAt (now (moved .entry)) 0 m) (record { face = faceAt (now (s .entry)) o c; places = countsAt (now (places .entry)) p c; by = d })) to (now (dst .entry)) (now (dst .exit)) r ⌝ }
 {
     let w = room::get_plane(s, o);
@@ -152,7 +152,7 @@ fn move_face(
             room::put_plane(dst, to, f);
         }
     }
-    put_corners(places, p, c, moved, m, dst, to + 12);
+    put_corners(places, p, c, moved, m, dst, to + room::PLANE);
     Verdict::Fine
 }
 
@@ -191,9 +191,9 @@ fn move_faces(
             }
         }
         sizes[k + j] = c as u64;
-        o = o + 12 + 3 * c;
+        o = o + room::PLANE + 3 * c;
         p += c;
-        q = q + 12 + 3 * c;
+        q = q + room::PLANE + 3 * c;
         j += 1;
     }
     Verdict::Fine

@@ -22,18 +22,18 @@ use Rattle.pieces.specs.Pieces.{piecesOf}
 
 -- ---- planes that were stored are read back
 
-length-planes : (c : Cell) → length (planesFloats c) ≡ 12 * length c
+length-planes : (c : Cell) → length (planesFloats c) ≡ 13 * length c
 unfolding planesFloats
 length-planes [] = refl
 length-planes (f ∷ c) = omega (arith, length-planes c)
 
 -- the two cells' planes, one behind the other
-pub planes-put : (a b : Cell) (faces : ℕ) (p₀ p p′ : List Float) → length a ≡ faces → p ≡ sets p₀ (12 * 0) (planesFloats a) → p′ ≡ sets p (12 * faces) (planesFloats b) →
+pub planes-put : (a b : Cell) (faces : ℕ) (p₀ p p′ : List Float) → length a ≡ faces → p ≡ sets p₀ (13 * 0) (planesFloats a) → p′ ≡ sets p (13 * faces) (planesFloats b) →
     p′ ≡ sets p₀ 0 (planesFloats a ++ planesFloats b)
 planes-put a b faces p₀ p p′ h e g =
-    let k : 12 * faces ≡ 0 + length (planesFloats a) = omega (arith, length-planes a) in
-    let z : 12 * 0 ≡ 0 = omega arith in
-    g ∙ ap (λ x. sets x (12 * faces) (planesFloats b)) (e ∙ ap (λ i. sets p₀ i (planesFloats a)) z) ∙ ap (λ i. sets (sets p₀ 0 (planesFloats a)) i (planesFloats b)) k
+    let k : 13 * faces ≡ 0 + length (planesFloats a) = omega (arith, length-planes a) in
+    let z : 13 * 0 ≡ 0 = omega arith in
+    g ∙ ap (λ x. sets x (13 * faces) (planesFloats b)) (e ∙ ap (λ i. sets p₀ i (planesFloats a)) z) ∙ ap (λ i. sets (sets p₀ 0 (planesFloats a)) i (planesFloats b)) k
     ∙ sets-append p₀ 0 (planesFloats a) (planesFloats b)
 
 planes-back : (x : List Float) (c : Cell) (y : List Float) (i : ℕ) → i ≡ length x → planesAt (x ++ (planesFloats c ++ y)) i (length c) ≡ planesOf c
@@ -43,10 +43,10 @@ planes-back x (f ∷ c) y i e =
     let w = planeFloats (f .plane) in
     let s1 : x ++ ((planeFloats (f .plane) ++ planesFloats c) ++ y) ≡ x ++ (planeFloats (f .plane) ++ (planesFloats c ++ y)) = refl in
     let s2 : x ++ (planeFloats (f .plane) ++ (planesFloats c ++ y)) ≡ (x ++ planeFloats (f .plane)) ++ (planesFloats c ++ y) = sym (append-assoc x (planeFloats (f .plane)) (planesFloats c ++ y)) in
-    let k : i + 12 ≡ length (x ++ planeFloats (f .plane)) = omega (arith, e, length-append x (planeFloats (f .plane))) in
-    ap (λ p. p ∷ planesAt (x ++ ((w ++ planesFloats c) ++ y)) (i + 12) (length c)) (ap (λ s. planeAt s i) s1 ∙ plane-back x (f .plane) (planesFloats c ++ y) i e)
-    ∙ ap (λ s. f .plane ∷ planesAt s (i + 12) (length c)) (s1 ∙ s2)
-    ∙ ap (λ l. f .plane ∷ l) (planes-back (x ++ w) c y (i + 12) k)
+    let k : i + 13 ≡ length (x ++ planeFloats (f .plane)) = omega (arith, e, length-append x (planeFloats (f .plane))) in
+    ap (λ p. p ∷ planesAt (x ++ ((w ++ planesFloats c) ++ y)) (i + 13) (length c)) (ap (λ s. planeAt s i) s1 ∙ plane-back x (f .plane) (planesFloats c ++ y) i e)
+    ∙ ap (λ s. f .plane ∷ planesAt s (i + 13) (length c)) (s1 ∙ s2)
+    ∙ ap (λ l. f .plane ∷ l) (planes-back (x ++ w) c y (i + 13) k)
 
 floats-both : (a b : Cell) → planesFloats (a ++ b) ≡ planesFloats a ++ planesFloats b
 unfolding planesFloats
@@ -58,7 +58,7 @@ unfolding planesOf
 planes-both [] b = refl
 planes-both (f ∷ a) b = ap (λ l. f .plane ∷ l) (planes-both a b)
 
-planes-stored : (a b : Cell) (p₀ p : List Float) (n : ℕ) → n ≡ length a + length b → 12 * n ≤ length p₀ → p ≡ sets p₀ 0 (planesFloats a ++ planesFloats b) → planesAt p 0 n ≡ planesOf a ++ planesOf b
+planes-stored : (a b : Cell) (p₀ p : List Float) (n : ℕ) → n ≡ length a + length b → 13 * n ≤ length p₀ → p ≡ sets p₀ 0 (planesFloats a ++ planesFloats b) → planesAt p 0 n ≡ planesOf a ++ planesOf b
 planes-stored a b p₀ p n e h g =
     let m : n ≡ length (a ++ b) = omega (arith, e, length-append a b) in
     let u : 0 + length (planesFloats (a ++ b)) ≤ length p₀ = omega (arith, length-planes (a ++ b), m) in
@@ -71,7 +71,7 @@ pub place-of : (room : ℕ) (d : List Float) (n z : List ℕ) → Places room d 
 place-of room d n z p = record { place = omega (arith, p .place); slots = omega (arith, p .slots) }
 
 pub pieces-listed : (op : Operation) (t : Precision) (room : ℕ) (a b : Cell) (faces many : ℕ) (p₀ p : List Float) (list r : Stack) (d : List Float) (m z : List ℕ) (d′ : List Float) (m′ z′ : List ℕ) →
-    length a ≡ faces → length b ≡ many → faces ≤ 128 → many ≤ 128 → 3072 ≤ length p₀ → p ≡ sets p₀ 0 (planesFloats a ++ planesFloats b) → Listed room (cells op t room a b) list d m z →
+    length a ≡ faces → length b ≡ many → faces ≤ 128 → many ≤ 128 → 3328 ≤ length p₀ → p ≡ sets p₀ 0 (planesFloats a ++ planesFloats b) → Listed room (cells op t room a b) list d m z →
     Listed room (then (listAt list d m z) (splitAll t room (planesAt p 0 (faces + many)))) r d′ m′ z′ → Listed room (piecesOf op t room a b) r d′ m′ z′
 unfolding piecesOf
 pieces-listed op t room a b faces many p₀ p list r d m z d′ m′ z′ ea eb ha hb h g l k =

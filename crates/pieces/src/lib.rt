@@ -27,7 +27,7 @@ fn both_planes(
     many: usize,
     planes: &mut [f64],
 )
-    requires { ⌜ Sits faces (now rest) (now held) × Given (now src) from (now corners) j many × (many ≤ 128) × (3072 ≤ length (now planes)) ⌝ }
+    requires { ⌜ Sits faces (now rest) (now held) × Given (now src) from (now corners) j many × (many ≤ 128) × (3328 ≤ length (now planes)) ⌝ }
     ensures { λ _. ⌜ now (planes .exit) ≡ sets (now (planes .entry)) 0 (planesFloats (cellAt (now (rest .entry)) 0 (countsAt (now (held .entry)) 0 faces)) ++ planesFloats (cellAt (now (src .entry)) from (countsAt (now (corners .entry)) j many))) ⌝ }
 {
     splits::planes_of(rest, 0, held, 0, faces, planes, 0);
@@ -56,7 +56,7 @@ pub fn pieces(
     seats: &mut [u64],
 ) -> Stack
     requires { ⌜ Sits faces (now rest) (now held) × Given (now src) from (now corners) j many × Wide (cellAt (now src) from (countsAt (now corners) j many)) × (1 ≤ many) × (many ≤ 128) ⌝ }
-    requires { ⌜ (3072 ≤ length (now planes)) × Place limit (now rest) (now held) × Places limit (now dst) (now counts) (now sizes) × Places limit (now spare) (now slots) (now seats) ⌝ }
+    requires { ⌜ (3328 ≤ length (now planes)) × Place limit (now rest) (now held) × Places limit (now dst) (now counts) (now sizes) × Places limit (now spare) (now slots) (now seats) ⌝ }
     ensures { λ r. ⌜ Listed limit (piecesOf op t limit (cellAt (now (rest .entry)) 0 (countsAt (now (held .entry)) 0 faces)) (cellAt (now (src .entry)) from (countsAt (now (corners .entry)) j many))) r (now (dst .exit)) (now (counts .exit)) (now (sizes .exit)) ⌝ }
 {
     both_planes(faces, rest, held, src, from, corners, j, many, planes);

@@ -131,7 +131,7 @@ fn plane(v: [f64; 17]) -> Plane {
         y: point(v[6], v[7], v[8]),
         z: point(v[9], v[10], v[11]),
     };
-    Plane { frame }
+    Plane { frame, mark: 0.0 }
 }
 
 fn shadow(xl: f64, xh: f64, yl: f64, yh: f64) -> Projected {

@@ -22,7 +22,7 @@ use Rattle.polygon.specs.Memory.{floats, floatsOf, pointAt, pointsAt}
 use Rattle.polygon.specs.Members.{All}
 use Rattle.polygon.specs.MemoryLaws as M
 use Rattle.polygon.specs.MemoryLaws.{length-pointsAt, point-stored}
-use Rattle.room.specs.Rooms.{planeFloats, planeAt, faceFloats, cellFloats, cellCounts, faceAt, cellAt, countsAt, Within, In, Small}
+use Rattle.room.specs.Rooms.{frameFloats, frameAt, planeFloats, planeAt, faceFloats, cellFloats, cellCounts, faceAt, cellAt, countsAt, Within, In, Small}
 
 -- ---- runs of stores
 
@@ -38,12 +38,15 @@ sets-point s o q l = rw add-three refl
 pub sets-none : (s : List Float) (o : ℕ) → sets s o (floatsOf []) ≡ s
 sets-none s o = refl
 
-pub sets-plane : (s : List Float) (at : ℕ) (a b c d : Point3) →
+pub sets-frame : (s : List Float) (at : ℕ) (a b c d : Point3) →
     sets (sets (sets (sets s at (floats a)) (at + 3) (floats b)) (at + 6) (floats c)) (at + 9) (floats d) ≡ sets s at (floats a ++ floats b ++ floats c ++ floats d)
-sets-plane s at a b c d =
+sets-frame s at a b c d =
     ap (λ l. sets (sets l (at + 6) (floats c)) (at + 9) (floats d)) (sets-append s at (floats a) (floats b))
     ∙ ap (λ l. sets l (at + 9) (floats d)) (sets-append s at (floats a ++ floats b) (floats c))
     ∙ sets-append s at (floats a ++ floats b ++ floats c) (floats d)
+
+pub sets-plane : (s : List Float) (at : ℕ) (w : Plane) → set (sets s at (frameFloats (w .frame))) (at + 12) (w .mark) ≡ sets s at (planeFloats w)
+sets-plane s at w = sets-append s at (frameFloats (w .frame)) (w .mark ∷ [])
 
 -- ---- a fill from the front
 
@@ -83,7 +86,7 @@ pub corners-snoc : (c : Cell) (f : Face) → corners 0 (c ++ (f ∷ [])) ≡ cor
 corners-snoc [] f = omega (arith, corners-cons f [], corners-none)
 corners-snoc (g ∷ c) f = omega (arith, corners-snoc c f, corners-cons g c, corners-cons g (c ++ (f ∷ [])))
 
-pub length-cellFloats : (c : Cell) → length (cellFloats c) ≡ 12 * length c + 3 * corners 0 c
+pub length-cellFloats : (c : Cell) → length (cellFloats c) ≡ 13 * length c + 3 * corners 0 c
 unfolding cellFloats
 length-cellFloats [] = omega (arith, corners-none)
 length-cellFloats (f ∷ c) = omega (arith, length-cellFloats c, length-append (floatsOf (f .points)) (cellFloats c), length-floatsOf (f .points), corners-cons f c)
@@ -97,12 +100,12 @@ length-cellCounts (f ∷ c) = ap suc (length-cellCounts c)
 pub cell-counts : (s : List Float) (at : ℕ) (ns : List ℕ) → cellCounts (cellAt s at ns) ≡ ns
 unfolding cellAt cellCounts
 cell-counts s at [] = refl
-cell-counts s at (n ∷ ns) = ap (λ x. x ∷ cellCounts (cellAt s (at + 12 + 3 * n) ns)) (length-pointsAt s (at + 12) n) ∙ ap (λ l. n ∷ l) (cell-counts s (at + 12 + 3 * n) ns)
+cell-counts s at (n ∷ ns) = ap (λ x. x ∷ cellCounts (cellAt s (at + 13 + 3 * n) ns)) (length-pointsAt s (at + 13) n) ∙ ap (λ l. n ∷ l) (cell-counts s (at + 13 + 3 * n) ns)
 
 pub length-cellAt : (s : List Float) (at : ℕ) (ns : List ℕ) → length (cellAt s at ns) ≡ length ns
 unfolding cellAt
 length-cellAt s at [] = refl
-length-cellAt s at (n ∷ ns) = ap suc (length-cellAt s (at + 12 + 3 * n) ns)
+length-cellAt s at (n ∷ ns) = ap suc (length-cellAt s (at + 13 + 3 * n) ns)
 
 pub cell-faces : (s : List Float) (at : ℕ) (ns : List ℕ) (j faces : ℕ) → j + faces ≤ length ns → length (cellAt s at (countsAt ns j faces)) ≡ faces
 cell-faces s at ns j faces h =
@@ -129,7 +132,7 @@ points-more d l q k e =
     let g : 3 * k ≡ 0 + length (floatsOf l) = omega (arith, length-floatsOf l) in
     ap (λ i. sets (sets d 0 (floatsOf l)) i (floats q)) g ∙ sets-append d 0 (floatsOf l) (floats q) ∙ ap (sets d 0) (sym (floatsOf-snoc l q))
 
-pub floats-more : (d : List Float) (at : ℕ) (c : Cell) (f : Face) (i : ℕ) → i ≡ at + 12 * length c + 3 * corners 0 c →
+pub floats-more : (d : List Float) (at : ℕ) (c : Cell) (f : Face) (i : ℕ) → i ≡ at + 13 * length c + 3 * corners 0 c →
     sets (sets d at (cellFloats c)) i (faceFloats f) ≡ sets d at (cellFloats (c ++ (f ∷ [])))
 floats-more d at c f i e =
     let k : i ≡ at + length (cellFloats c) = omega (arith, length-cellFloats c) in
@@ -170,7 +173,7 @@ next-count l k n i h g =
 pub counts-done : (l : List ℕ) (k n i : ℕ) → n ≤ i → drop i (countsAt l k n) ≡ []
 counts-done l k n i h = done (drop k l) n i h
 
-pub cell-next : (s : List Float) (at n : ℕ) (ns : List ℕ) → cellAt s at (n ∷ ns) ≡ faceAt s at n ∷ cellAt s (at + 12 + 3 * n) ns
+pub cell-next : (s : List Float) (at n : ℕ) (ns : List ℕ) → cellAt s at (n ∷ ns) ≡ faceAt s at n ∷ cellAt s (at + 13 + 3 * n) ns
 unfolding cellAt
 cell-next s at n ns = refl
 
@@ -182,21 +185,21 @@ pub within-small : (n : ℕ) (ns : List ℕ) (at m : ℕ) → Within (n ∷ ns) 
 unfolding Within
 within-small n ns at m w = w .0
 
-pub within-rest : (n : ℕ) (ns : List ℕ) (at m : ℕ) → Within (n ∷ ns) at m → Within ns (at + 12 + 3 * n) m
+pub within-rest : (n : ℕ) (ns : List ℕ) (at m : ℕ) → Within (n ∷ ns) at m → Within ns (at + 13 + 3 * n) m
 unfolding Within
 within-rest n ns at m w = w .1
 
 pub within-le : (ns : List ℕ) (at m : ℕ) → Within ns at m → at ≤ m
 unfolding Within
 within-le [] at m w = w
-within-le (n ∷ ns) at m w = omega (arith, within-le ns (at + 12 + 3 * n) m (w .1))
+within-le (n ∷ ns) at m w = omega (arith, within-le ns (at + 13 + 3 * n) m (w .1))
 
 -- a stored cell lies within its slice
 pub within-stored : (c : Cell) (at m : ℕ) → Small c → at + length (cellFloats c) ≤ m → Within (cellCounts c) at m
 unfolding Within cellCounts cellFloats All
 within-stored [] at m a h = omega arith
 within-stored (f ∷ c) at m a h =
-    (a .0, within-stored c (at + 12 + 3 * length (f .points)) m (a .1) (omega (arith, length-append (floatsOf (f .points)) (cellFloats c), length-floatsOf (f .points))))
+    (a .0, within-stored c (at + 13 + 3 * length (f .points)) m (a .1) (omega (arith, length-append (floatsOf (f .points)) (cellFloats c), length-floatsOf (f .points))))
 
 -- ---- every element
 
@@ -241,8 +244,8 @@ all-at p (y ∷ l) a x (inr h) = all-at p l (a .1) x h
 point-eq : (p q : Point3) → p .x ≡ q .x → p .y ≡ q .y → p .z ≡ q .z → p ≡ q
 point-eq p q a b c = λ i. record { x = a i; y = b i; z = c i }
 
-plane-eq : (p q : Plane) → p .frame .origin ≡ q .frame .origin → p .frame .x ≡ q .frame .x → p .frame .y ≡ q .frame .y → p .frame .z ≡ q .frame .z → p ≡ q
-plane-eq p q a b c d = λ i. record { frame = record { origin = a i; x = b i; y = c i; z = d i } }
+plane-eq : (p q : Plane) → p .frame .origin ≡ q .frame .origin → p .frame .x ≡ q .frame .x → p .frame .y ≡ q .frame .y → p .frame .z ≡ q .frame .z → p .mark ≡ q .mark → p ≡ q
+plane-eq p q a b c d e = λ i. record { frame = record { origin = a i; x = b i; y = c i; z = d i }; mark = e i }
 
 face-eq : (p q : Face) → p .plane ≡ q .plane → p .points ≡ q .points → p ≡ q
 face-eq p q a b = λ i. record { plane = a i; points = b i }
@@ -268,11 +271,12 @@ plane-back a w r i e =
     let f = w .frame in
     let at : (b : List Float) (p : Point3) (q : List Float) (k : ℕ) → k ≡ length b → b ++ (floats p ++ q) ≡ a ++ (planeFloats w ++ r) → pointAt (a ++ (planeFloats w ++ r)) k ≡ p =
     λ b p q k h g. ap (λ m. pointAt m k) (sym g) ∙ point-back b p q k h in
-    let o = at a (f .origin) (floats (f .x) ++ floats (f .y) ++ floats (f .z) ++ r) i e refl in
-    let x = at (a ++ floats (f .origin)) (f .x) (floats (f .y) ++ floats (f .z) ++ r) (i + 3) (rw (e, length-append) refl) (append-assoc a (floats (f .origin)) _) in
-    let y = at (a ++ (floats (f .origin) ++ floats (f .x))) (f .y) (floats (f .z) ++ r) (i + 6) (rw (e, length-append) refl) (append-assoc a (floats (f .origin) ++ floats (f .x)) _) in
-    let z = at (a ++ (floats (f .origin) ++ floats (f .x) ++ floats (f .y))) (f .z) r (i + 9) (rw (e, length-append) refl) (append-assoc a (floats (f .origin) ++ floats (f .x) ++ floats (f .y)) _) in
-    plane-eq (planeAt (a ++ (planeFloats w ++ r)) i) w o x y z
+    let o = at a (f .origin) (floats (f .x) ++ floats (f .y) ++ floats (f .z) ++ ((w .mark ∷ []) ++ r)) i e refl in
+    let x = at (a ++ floats (f .origin)) (f .x) (floats (f .y) ++ floats (f .z) ++ ((w .mark ∷ []) ++ r)) (i + 3) (rw (e, length-append) refl) (append-assoc a (floats (f .origin)) _) in
+    let y = at (a ++ (floats (f .origin) ++ floats (f .x))) (f .y) (floats (f .z) ++ ((w .mark ∷ []) ++ r)) (i + 6) (rw (e, length-append) refl) (append-assoc a (floats (f .origin) ++ floats (f .x)) _) in
+    let z = at (a ++ (floats (f .origin) ++ floats (f .x) ++ floats (f .y))) (f .z) ((w .mark ∷ []) ++ r) (i + 9) (rw (e, length-append) refl) (append-assoc a (floats (f .origin) ++ floats (f .x) ++ floats (f .y)) _) in
+    let m : getD (a ++ (planeFloats w ++ r)) (i + 12) nan ≡ w .mark = rw e (getD-append-add a (planeFloats w ++ r) 12 nan) in
+    plane-eq (planeAt (a ++ (planeFloats w ++ r)) i) w o x y z m
 
 -- n points that were stored from the front on
 pub points-stored : (d : List Float) (l : List Point3) → 3 * length l ≤ length d → pointsAt (sets d 0 (floatsOf l)) 0 (length l) ≡ l
@@ -288,13 +292,13 @@ cell-back a (f ∷ c) b i e =
     let s1 : a ++ ((faceFloats f ++ cellFloats c) ++ b) ≡ (a ++ faceFloats f) ++ (cellFloats c ++ b) = simp append-assoc in
     let s2 : a ++ ((faceFloats f ++ cellFloats c) ++ b) ≡ (a ++ planeFloats (f .plane)) ++ (floatsOf (f .points) ++ (cellFloats c ++ b)) = simp append-assoc in
     let s3 : a ++ ((faceFloats f ++ cellFloats c) ++ b) ≡ a ++ (planeFloats (f .plane) ++ (floatsOf (f .points) ++ (cellFloats c ++ b))) = simp append-assoc in
-    let k2 : i + 12 ≡ length (a ++ planeFloats (f .plane)) = rw (e, length-append) refl in
-    let k1 : i + 12 + 3 * length (f .points) ≡ length (a ++ faceFloats f) = omega (arith, e, length-append a (faceFloats f), length-floatsOf (f .points)) in
+    let k2 : i + 13 ≡ length (a ++ planeFloats (f .plane)) = rw (e, length-append) refl in
+    let k1 : i + 13 + 3 * length (f .points) ≡ length (a ++ faceFloats f) = omega (arith, e, length-append a (faceFloats f), length-floatsOf (f .points)) in
     let h : planeAt (a ++ (cellFloats (f ∷ c) ++ b)) i ≡ f .plane = ap (λ m. planeAt m i) s3 ∙ plane-back a (f .plane) (floatsOf (f .points) ++ (cellFloats c ++ b)) i e in
-    let p : pointsAt (a ++ (cellFloats (f ∷ c) ++ b)) (i + 12) (length (f .points)) ≡ f .points =
-    ap (λ m. pointsAt m (i + 12) (length (f .points))) s2 ∙ points-back (a ++ planeFloats (f .plane)) (f .points) (cellFloats c ++ b) (i + 12) k2 in
-    let t : cellAt (a ++ (cellFloats (f ∷ c) ++ b)) (i + 12 + 3 * length (f .points)) (cellCounts c) ≡ c =
-    ap (λ m. cellAt m (i + 12 + 3 * length (f .points)) (cellCounts c)) s1 ∙ cell-back (a ++ faceFloats f) c b (i + 12 + 3 * length (f .points)) k1 in
+    let p : pointsAt (a ++ (cellFloats (f ∷ c) ++ b)) (i + 13) (length (f .points)) ≡ f .points =
+    ap (λ m. pointsAt m (i + 13) (length (f .points))) s2 ∙ points-back (a ++ planeFloats (f .plane)) (f .points) (cellFloats c ++ b) (i + 13) k2 in
+    let t : cellAt (a ++ (cellFloats (f ∷ c) ++ b)) (i + 13 + 3 * length (f .points)) (cellCounts c) ≡ c =
+    ap (λ m. cellAt m (i + 13 + 3 * length (f .points)) (cellCounts c)) s1 ∙ cell-back (a ++ faceFloats f) c b (i + 13 + 3 * length (f .points)) k1 in
     let g : _≡_ {A = Face} (faceAt (a ++ (cellFloats (f ∷ c) ++ b)) i (length (f .points))) f = face-eq _ f h p in
     cc (g, t)
 
@@ -308,7 +312,7 @@ cell-stored d at c h =
 
 -- ---- one point more at the front of a slice
 
-getD-sets-before : (s : List Float) (i j : ℕ) (vs : List Float) (d : Float) → j < i → getD (sets s i vs) j d ≡ getD s j d
+pub getD-sets-before : (s : List Float) (i j : ℕ) (vs : List Float) (d : Float) → j < i → getD (sets s i vs) j d ≡ getD s j d
 getD-sets-before s i j [] d h = refl
 getD-sets-before s i j (v ∷ vs) d h =
     getD-sets-before (set s i v) (suc i) j vs d (omega arith) ∙ getD-set-other s i j v d (λ e. omega (arith, e))

@@ -5,7 +5,7 @@ use mathlib.Core.List.{List, [], _∷_, _++_}
 use lib.ListN.{length, getD}
 use lib.Dec.{eqb}
 use lib.Ieee.{Float, binary64, ofBits, div, neg, lt}
-use Rattle.refusal.specs.Outcome.{Outcome, ok, refused, unless}
+use Rattle.refusal.specs.Outcome.{Outcome, then, ok, refused, unless}
 use Rattle.interval.specs.declared.Interval.{Interval}
 use Rattle.interval.specs.Ends.{one, pointI, subI, holdsZero}
 use Rattle.interval.specs.Box.{dotI}
@@ -13,7 +13,7 @@ use Rattle.space.specs.declared.Point3.{Point3}
 use Rattle.space.specs.declared.Precision.{Precision}
 use Rattle.space.specs.declared.Plane.{Plane}
 use Rattle.space.specs.Vector.{subV, addV, scaleV, dotV, crossV, boxOf, origin}
-use Rattle.space.specs.Frames.{planeOf}
+use Rattle.space.specs.Frames.{planeOf, withMark}
 use Rattle.shift.specs.declared.Push.{Push}
 use Rattle.shift.specs.declared.Meeting.{Meeting}
 use Rattle.shift.specs.declared.Shifted.{Shifted}
@@ -85,6 +85,6 @@ movedBy t a b c p n = unless (flat a n) 25 (movedTo t a b c p (addV p (deltaOf a
 unfoldable pub movedAt : Precision → Point3 → Meeting → Outcome Point3
 movedAt t p m = unless (not (eqb (m .n) 3)) 24 (movedBy t (m .a) (m .b) (m .c) p (crossV (m .b .normal) (m .c .normal)))
 
--- the plane of a face, pushed along its normal
+-- the plane of a face, pushed along its normal, with the same mark
 unfoldable pub movedPlane : Precision → Plane → Float → Outcome Plane
-movedPlane t w d = planeOf t (addV (w .frame .origin) (scaleV (w .frame .z) d)) (w .frame .z) (w .frame .x)
+movedPlane t w d = then (planeOf t (addV (w .frame .origin) (scaleV (w .frame .z) d)) (w .frame .z) (w .frame .x)) (withMark (w .mark))

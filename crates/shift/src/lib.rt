@@ -170,7 +170,7 @@ pub fn moved(t: Precision, p: Point3, m: Meeting) -> Shifted
     moved_by(t, a, b, c, p, space::cross(y, z))
 }
 
-// The plane of a face, pushed along its normal.
+// The plane of a face, pushed along its normal; its mark stays.
 pub fn moved_plane(t: Precision, w: Plane, d: f64) -> Planed
     ensures { λ r. ⌜ planed r ≡ movedPlane t w d ⌝ }
 {
@@ -178,5 +178,6 @@ pub fn moved_plane(t: Precision, w: Plane, d: f64) -> Planed
     let o = f.origin;
     let x = f.x;
     let z = f.z;
-    space::plane_of(t, space::plus(o, space::times(z, d)), z, x)
+    let made = space::plane_of(t, space::plus(o, space::times(z, d)), z, x);
+    space::marked(made, w.mark)
 }

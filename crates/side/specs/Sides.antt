@@ -1,7 +1,7 @@
 -- On which side of a plane a point lies, by intervals: 7. Definitions only.
 use mathlib.Core.Bool.{Bool, true, false, _&&_, cond}
 use lib.Ieee.{Float, le, neg}
-use Rattle.refusal.specs.Outcome.{Outcome, refusalOf}
+use Rattle.refusal.specs.Outcome.{Outcome, then, refusalOf}
 use Rattle.interval.specs.declared.Interval.{Interval}
 use Rattle.interval.specs.declared.Sign.{Sign}
 use Rattle.interval.specs.declared.Sign.the-variants as S
@@ -11,7 +11,7 @@ use Rattle.space.specs.declared.Point3.{Point3}
 use Rattle.space.specs.declared.Plane.{Plane}
 use Rattle.space.specs.declared.Precision.{Precision}
 use Rattle.space.specs.Vector.{subV, negV, dotV, boxOf}
-use Rattle.space.specs.Frames.{planeOf}
+use Rattle.space.specs.Frames.{planeOf, withMark}
 use Rattle.side.specs.declared.Side.{Side}
 use Rattle.side.specs.declared.Side.the-variants.{Positive, Negative, Zero, Refused}
 
@@ -53,6 +53,6 @@ classed d t = firstOf (isPositive (signOf (subI d (pointI t)))) (isNegative (sig
 unfoldable pub sideOf : Precision → Plane → Point3 → Side
 sideOf t w p = classed (distanceOf w p) (t .local)
 
--- the plane of the same origin, with the normal turned round and the same hint
+-- the plane of the same origin, with the normal turned round, the same hint and the same mark
 unfoldable pub oppositeOf : Precision → Plane → Outcome Plane
-oppositeOf t w = planeOf t (w .frame .origin) (negV (w .frame .z)) (w .frame .x)
+oppositeOf t w = then (planeOf t (w .frame .origin) (negV (w .frame .z)) (w .frame .x)) (withMark (w .mark))

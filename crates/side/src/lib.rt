@@ -108,10 +108,11 @@ pub fn side_of(plane: Plane, p: Point3, precision: Precision) -> Side
     classify(distance(plane, p), precision.local)
 }
 
-// The same plane seen from its other side.
+// The same plane seen from its other side; its mark stays.
 pub fn opposite(plane: Plane, precision: Precision) -> Planed
     ensures { λ r. ⌜ planed r ≡ oppositeOf precision plane ⌝ }
 {
     let frame = plane.frame;
-    space::plane_of(precision, frame.origin, space::negated(frame.z), frame.x)
+    let made = space::plane_of(precision, frame.origin, space::negated(frame.z), frame.x);
+    space::marked(made, plane.mark)
 }

@@ -31,8 +31,8 @@ fn is_lent(
     if 4294967296 < room {
         return false;
     }
-    let floats = ((3 * room + 1920 <= rest) & (3 * room + 1536 <= spare))
-        & (10 * room + 1536 <= dst);
+    let floats = ((3 * room + 1984 <= rest) & (3 * room + 1664 <= spare))
+        & (11 * room + 1664 <= dst);
     let list = ((room + 128 <= held) & (room + 128 <= slots))
         & ((room + 128 <= counts) & (room < sizes));
     let cut = (2 * room + 1024 <= order) & (2 * room + 2048 <= chain);

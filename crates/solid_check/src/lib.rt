@@ -11,7 +11,7 @@ ghost use lib.ListN.{length};
 ghost use lib.Seq.{sets};
 ghost use Rattle.refusal.specs.Outcome.{verdictOf};
 ghost use Rattle.polygon.specs.Memory.{floatsOf, pointsAt};
-ghost use Rattle.room.specs.Rooms.{countsAt, faceFloats, cellFloats};
+ghost use Rattle.room.specs.Rooms.{planeSize, countsAt, faceFloats, cellFloats};
 ghost use Rattle.solids.specs.Frames.{pointOf, facesAt, Placing};
 ghost use Rattle.solid_check.specs.Check.{solidAt, check, stored, framed};
 
@@ -96,11 +96,11 @@ fn put_face(
     s: &mut [f64],
     o: usize,
 )
-    requires { ⌜ (3 * m ≤ length (now points)) × (at + n ≤ length (now places)) × (o + 12 + 3 * n ≤ length (now s)) ⌝ }
+    requires { ⌜ (3 * m ≤ length (now points)) × (at + n ≤ length (now places)) × (o + planeSize + 3 * n ≤ length (now s)) ⌝ }
     ensures { λ _. ⌜ now (s .exit) ≡ sets (now (s .entry)) o (faceFloats (record { plane = w; points = map (pointOf (pointsAt (now (points .entry)) 0 m)) (countsAt (now (places .entry)) at n) })) ⌝ }
 {
     room::put_plane(s, o, w);
-    put_corners(points, m, places, at, n, s, o + 12);
+    put_corners(points, m, places, at, n, s, o + room::PLANE);
 }
 
 // The n faces, up to the first that has no plane.
@@ -113,7 +113,7 @@ pub fn put_faces(
     n: usize,
     s: &mut [f64],
 )
-    requires { ⌜ (3 * m ≤ length (now points)) × (n ≤ length (now counts)) × Placing (countsAt (now counts) 0 n) 0 (length (now places)) × (12 * n + 3 * length (now places) ≤ length (now s)) ⌝ }
+    requires { ⌜ (3 * m ≤ length (now points)) × (n ≤ length (now counts)) × Placing (countsAt (now counts) 0 n) 0 (length (now places)) × (planeSize * n + 3 * length (now places) ≤ length (now s)) ⌝ }
     ensures { λ _. ⌜ now (s .exit) ≡ sets (now (s .entry)) 0 (cellFloats (framed t (pointsAt (now (points .entry)) 0 m) (facesAt (now (places .entry)) 0 (countsAt (now (counts .entry)) 0 n)))) ⌝ }
 {
     let mut at = 0;
@@ -127,7 +127,7 @@ pub fn put_faces(
         };
         put_face(w, points, m, places, at, c, s, o);
         at += c;
-        o += 12 + 3 * c;
+        o += room::PLANE + 3 * c;
         j += 1;
     }
 }
@@ -153,7 +153,7 @@ pub fn checked_cell(
     requires { ⌜ (3 * m ≤ length (now points)) × (n ≤ length (now counts)) × Placing (countsAt (now counts) 0 n) 0 (length (now places)) ⌝ }
     requires { ⌜ (2 * length (now places) ≤ length (now ends)) × (2 * length (now places) ≤ length (now next)) × (length (now places) ≤ length (now nodes)) ⌝ }
     requires { ⌜ (n ≤ length (now head)) × (n ≤ length (now seen)) × (n ≤ length (now work)) × (n ≤ length (now nodes)) × (n < length (now cuts)) ⌝ }
-    requires { ⌜ 12 * n + 3 * length (now places) ≤ length (now s) ⌝ }
+    requires { ⌜ planeSize * n + 3 * length (now places) ≤ length (now s) ⌝ }
     ensures { λ r. ⌜ r ≡ verdictOf (check given t (solidAt (now (points .entry)) m (now (places .entry)) (now (counts .entry)) n)) ⌝ }
     ensures { λ _. ⌜ now (s .exit) ≡ stored (check given t (solidAt (now (points .entry)) m (now (places .entry)) (now (counts .entry)) n)) (now (s .entry)) ⌝ }
 {

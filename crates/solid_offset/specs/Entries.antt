@@ -20,7 +20,7 @@ use Rattle.hollow_answer.specs.Calls.{hollowCall}
 
 -- what is lent suffices: an answer of 64 bytes a corner of the room, and two rooms, the first with a place for two shells
 unfoldable pub lent : ℕ → ℕ → ℕ → ℕ → ℕ → ℕ → Bool
-lent room answer s counts dst sizes = leb room (answer / 64) && ((leb 3840 s && leb 128 counts) && (leb 1920 dst && leb 64 sizes))
+lent room answer s counts dst sizes = leb room (answer / 64) && ((leb 3968 s && leb 128 counts) && (leb 1984 dst && leb 64 sizes))
 
 -- "the solid", then the rest: "a non-finite offset is 2, after the solid"
 unfoldable pub offsetLaid : List ℕ → ℕ → Float → CellLayout → Outcome (List ℕ)
@@ -52,9 +52,9 @@ pub record Given (s : List Float) (counts : List ℕ) (n : ℕ) : Type 0 where
 
 -- both rooms
 pub record Rooms (s counts dst sizes : ℕ) : Type 0 where
-  pub floats : 3840 ≤ s
+  pub floats : 3968 ≤ s
   pub counted : 128 ≤ counts
-  pub place : 1920 ≤ dst
+  pub place : 1984 ≤ dst
   pub slots : 64 ≤ sizes
 
 -- where what is lent suffices, the rooms are there

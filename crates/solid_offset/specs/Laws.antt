@@ -47,7 +47,7 @@ module _ {s : List Float} {counts : List ℕ} {n : ℕ} (g : Given s counts n) w
   many = sym (length-cellCounts (cellAt s 0 (countsAt counts 0 n))) ∙ ap length (cell-counts s 0 (countsAt counts 0 n)) ∙ length-face counts 0 n (g .lies .listed)
 
   pub given-shop : {by points : List Float} {places : List ℕ} {moved dst : List Float} {sizes ends head next seen work nodes cuts : List ℕ} → 64 ≤ length by → 1152 ≤ length points → 384 ≤ length places → 1152 ≤ length moved →
-      1920 ≤ length dst → 64 ≤ length sizes → Bench (length places) n ends head next seen work nodes cuts → Shop s counts n by points places moved dst sizes ends head next seen work nodes cuts
+      1984 ≤ length dst → 64 ≤ length sizes → Bench (length places) n ends head next seen work nodes cuts → Shop s counts n by points places moved dst sizes ends head next seen work nodes cuts
   given-shop {dst = dst} b p i m d z w =
       let l : length (countsAt counts 0 n) ≡ n = length-face counts 0 n (g .lies .listed) in
       record {
@@ -60,7 +60,7 @@ module _ {s : List Float} {counts : List ℕ} {n : ℕ} (g : Given s counts n) w
         bench = w;
       }
 
-  pub given-yard : {by points : List Float} {places : List ℕ} {moved dst : List Float} {sizes ends head next seen work nodes cuts : List ℕ} → 64 ≤ length by → 1152 ≤ length points → length places ≡ 384 → 1920 ≤ length moved →
+  pub given-yard : {by points : List Float} {places : List ℕ} {moved dst : List Float} {sizes ends head next seen work nodes cuts : List ℕ} → 64 ≤ length by → 1152 ≤ length points → length places ≡ 384 → 1984 ≤ length moved →
       Rooms (length s) (length counts) (length dst) (length sizes) → Bench (length places) n ends head next seen work nodes cuts → Yard s counts n by points places moved dst sizes ends head next seen work nodes cuts
   given-yard b p i m r w = record {
     shop = given-shop b p (omega (arith, i)) (omega (arith, m)) (r .place) (r .slots) w;
@@ -140,11 +140,11 @@ hollow-thin l y room w b a x e h t k g =
 lent-rooms : (room answer s counts dst sizes : ℕ) (b : Bool) → b ≡ lent room answer s counts dst sizes → b ≡ true → Rooms s counts dst sizes
 unfolding lent
 lent-rooms room answer s counts dst sizes b e t =
-    let x = and-true (leb room (answer / 64)) ((leb 3840 s && leb 128 counts) && (leb 1920 dst && leb 64 sizes)) (sym e ∙ t) in
-    let y = and-true (leb 3840 s && leb 128 counts) (leb 1920 dst && leb 64 sizes) (x .1) in
-    let z = and-true (leb 3840 s) (leb 128 counts) (y .0) in
-    let w = and-true (leb 1920 dst) (leb 64 sizes) (y .1) in
-    record { floats = leb-true 3840 s (z .0); counted = leb-true 128 counts (z .1); place = leb-true 1920 dst (w .0); slots = leb-true 64 sizes (w .1) }
+    let x = and-true (leb room (answer / 64)) ((leb 3968 s && leb 128 counts) && (leb 1984 dst && leb 64 sizes)) (sym e ∙ t) in
+    let y = and-true (leb 3968 s && leb 128 counts) (leb 1984 dst && leb 64 sizes) (x .1) in
+    let z = and-true (leb 3968 s) (leb 128 counts) (y .0) in
+    let w = and-true (leb 1984 dst) (leb 64 sizes) (y .1) in
+    record { floats = leb-true 3968 s (z .0); counted = leb-true 128 counts (z .1); place = leb-true 1984 dst (w .0); slots = leb-true 64 sizes (w .1) }
 
 pub lent-ample : (room answer s counts dst sizes : ℕ) (b : Bool) → b ≡ lent room answer s counts dst sizes → Ample b s counts dst sizes
 lent-ample room answer s counts dst sizes b e = record { rooms = lent-rooms room answer s counts dst sizes b e }

@@ -27,7 +27,7 @@ fn offset_here(
     sizes: &mut [u64],
     answer: &mut [u8],
 ) -> Ended
-    requires { ⌜ Given (now s) (now counts) n × (1920 ≤ length (now dst)) × (64 ≤ length (now sizes)) ⌝ }
+    requires { ⌜ Given (now s) (now counts) n × (1984 ≤ length (now dst)) × (64 ≤ length (now sizes)) ⌝ }
     ensures { λ r. ⌜ Brief (fitted (length (now (answer .entry))) (offsetCall t limit d (cellAt (now (s .entry)) 0 (countsAt (now (counts .entry)) 0 n)))) (now (answer .entry)) (now (answer .exit)) r ⌝ }
 {
     let mut by = [0.0; 64];
@@ -83,7 +83,7 @@ fn hollow_here(
     let mut by = [0.0; 64];
     let mut points = [0.0; 1152];
     let mut places = [0u64; 384];
-    let mut moved = [0.0; 1920];
+    let mut moved = [0.0; 1984];
     let mut ends = [0u64; 768];
     let mut head = [0u64; 64];
     let mut next = [0u64; 768];
@@ -175,7 +175,7 @@ fn hollow_laid(
 fn is_lent(room: usize, answer: usize, s: usize, counts: usize, dst: usize, sizes: usize) -> bool
     ensures { λ r. ⌜ r ≡ lent room answer s counts dst sizes ⌝ }
 {
-    (room <= answer / 64) & (((3840 <= s) & (128 <= counts)) & ((1920 <= dst) & (64 <= sizes)))
+    (room <= answer / 64) & (((3968 <= s) & (128 <= counts)) & ((1984 <= dst) & (64 <= sizes)))
 }
 
 fn offset_served(

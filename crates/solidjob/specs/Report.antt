@@ -62,10 +62,10 @@ done l a a′ r e n w k m =
 
 -- what is lent is enough for a room of 720 corners
 abbrev roomy : ℕ → Bool
-roomy n = lends 720 n 4080 8736 8736 848 848 848 721 721 720 720 720 721 2160 1440 721 720 720 721 720 720 720
+roomy n = lends 720 n 4144 9584 9584 848 848 848 721 721 720 720 720 721 2160 1440 721 720 720 721 720 720 720
 
 is-roomy : (n : ℕ) → n ≡ 46080 → roomy n ≡ true
-is-roomy n e = lends-all 720 n 4080 8736 8736 848 848 848 721 721 720 720 720 721 2160 1440 721 720 720 721 720 720 720 (record { low = omega arith; answer-fits = omega (arith, e); rest-fits = omega arith; spare-fits = omega arith; dst-fits = omega arith; held-fits = omega arith; slots-fit = omega arith; counts-fit = omega arith; sizes-fit = omega arith; seats-fit = omega arith; lengths-fit = omega arith; owners-fit = omega arith; cells-fit = omega arith; cuts-fit = omega arith; runs-fit = omega arith; keys-fit = omega arith; begins-fit = omega arith; ord-fits = omega arith; ends-fit = omega arith; marks-fit = omega arith; out-fits = omega arith; many-fit = omega arith; shells-fit = omega arith })
+is-roomy n e = lends-all 720 n 4144 9584 9584 848 848 848 721 721 720 720 720 721 2160 1440 721 720 720 721 720 720 720 (record { low = omega arith; answer-fits = omega (arith, e); rest-fits = omega arith; spare-fits = omega arith; dst-fits = omega arith; held-fits = omega arith; slots-fit = omega arith; counts-fit = omega arith; sizes-fit = omega arith; seats-fit = omega arith; lengths-fit = omega arith; owners-fit = omega arith; cells-fit = omega arith; cuts-fit = omega arith; runs-fit = omega arith; keys-fit = omega arith; begins-fit = omega arith; ord-fits = omega arith; ends-fit = omega arith; marks-fit = omega arith; out-fits = omega arith; many-fit = omega arith; shells-fit = omega arith })
 
 pub job-fused : (l a a′ : List ℕ) (r : Ended) → ((r ≡ endedOf (fuseEntry (roomy (length a)) 720 l)) × (r .bytes ≤ 274877906944) × (r .bytes ≤ 64 * 720)) × (a′ ≡ written (fuseEntry (roomy (length a)) 720 l) a) → length a ≡ 46080 → length a′ ≡ length a → Done l r a′
 job-fused l a a′ r h k m =

@@ -12,9 +12,9 @@ fn fuse_job(job: &[u8], answer: &mut [u8]) -> Ended
     requires { ⌜ length (now answer) ≡ 46080 ⌝ }
     ensures { λ r. ⌜ Done (now (job .entry)) r (now (answer .exit)) ⌝ }
 {
-    let mut rest = [0.0; 4080];
-    let mut spare = [0.0; 8736];
-    let mut dst = [0.0; 8736];
+    let mut rest = [0.0; 4144];
+    let mut spare = [0.0; 9584];
+    let mut dst = [0.0; 9584];
     let mut held = [0u64; 848];
     let mut slots = [0u64; 848];
     let mut counts = [0u64; 848];

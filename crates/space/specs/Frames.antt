@@ -1,6 +1,6 @@
 -- Frames and planes: 5. Definitions only.
 use mathlib.Core.Bool.{Bool, true, false, not, _&&_}
-use lib.Ieee.{Float, lt}
+use lib.Ieee.{Float, lt, binary64, ofBits}
 use Rattle.float.specs.Float.{finite}
 use Rattle.refusal.specs.Outcome.{Outcome, ok, refused, refuse, then, unless}
 use Rattle.space.specs.declared.Point3.{Point3}
@@ -49,10 +49,17 @@ unfoldable pub frameOf : Precision → Point3 → Point3 → Point3 → Outcome 
 frameOf p o n h = frameUp p o n h (lengthV n)
 
 abbrev pub onFrame : Frame → Outcome Plane
-onFrame f = ok (record { frame = f })
+onFrame f = ok (record { frame = f; mark = ofBits binary64 0 })
 
 unfoldable pub planeOf : Precision → Point3 → Point3 → Point3 → Outcome Plane
 planeOf p o n h = then (frameOf p o n h) onFrame
+
+-- the same plane with another mark
+unfoldable pub remark : Float → Plane → Plane
+remark m w = record { frame = w .frame; mark = m }
+
+abbrev pub withMark : Float → Plane → Outcome Plane
+withMark m w = ok (remark m w)
 
 -- "A face's frame: origin a, normal (b-a) cross (c-a), hint b-a, of its first three corners"
 unfoldable pub facePlane : Precision → Point3 → Point3 → Point3 → Outcome Plane

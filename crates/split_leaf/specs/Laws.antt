@@ -21,11 +21,11 @@ use Rattle.split_leaf.specs.Splitting.{splitFits, cellsTold, Alone, Spli
 
 pub fits-large : (room d n z told : ℕ) → 6400 < room → false ≡ splitFits room d n z told
 unfolding splitFits
-fits-large room d n z told h = sym (ap (λ b. b && ((leb (10 * room + 1536) d && leb (room + 128) n) && (ltb room z && leb 3 told))) (lt-leb room 6400 h))
+fits-large room d n z told h = sym (ap (λ b. b && ((leb (11 * room + 1664) d && leb (room + 128) n) && (ltb room z && leb 3 told))) (lt-leb room 6400 h))
 
-pub fits-all : (room d n z told : ℕ) → room ≤ 6400 → ((leb (10 * room + 1536) d && leb (room + 128) n) && (ltb room z && leb 3 told)) ≡ splitFits room d n z told
+pub fits-all : (room d n z told : ℕ) → room ≤ 6400 → ((leb (11 * room + 1664) d && leb (room + 128) n) && (ltb room z && leb 3 told)) ≡ splitFits room d n z told
 unfolding splitFits
-fits-all room d n z told h = sym (ap (λ b. b && ((leb (10 * room + 1536) d && leb (room + 128) n) && (ltb room z && leb 3 told))) (le-leb room 6400 h))
+fits-all room d n z told h = sym (ap (λ b. b && ((leb (11 * room + 1664) d && leb (room + 128) n) && (ltb room z && leb 3 told))) (le-leb room 6400 h))
 
 pub record Enough (room : ℕ) (d : List Float) (n z told : List ℕ) : Type 0 where
   pub low : room ≤ 6400
@@ -35,7 +35,7 @@ pub record Enough (room : ℕ) (d : List Float) (n z told : List ℕ) : Type 0 w
 pub enough : (room : ℕ) (d : List Float) (n z told : List ℕ) → splitFits room (length d) (length n) (length z) (length told) ≡ true → Enough room d n z told
 unfolding splitFits
 enough room d n z told e =
-    let a = leb (10 * room + 1536) (length d) in
+    let a = leb (11 * room + 1664) (length d) in
     let b = leb (room + 128) (length n) in
     let f = ltb room (length z) in
     let g = leb 3 (length told) in
@@ -44,7 +44,7 @@ enough room d n z told e =
     let q = and-true (a && b) (f && g) h .1 in
     record {
       low = leb-true room 6400 (and-true (leb room 6400) ((a && b) && (f && g)) e .0);
-      places = record { place = leb-true (10 * room + 1536) (length d) (and-true a b p .0); slots = leb-true (room + 128) (length n) (and-true a b p .1); seats = ltb-true room (length z) (and-true f g q .0) };
+      places = record { place = leb-true (11 * room + 1664) (length d) (and-true a b p .0); slots = leb-true (room + 128) (length n) (and-true a b p .1); seats = ltb-true room (length z) (and-true f g q .0) };
       tells = leb-true 3 (length told) (and-true f g q .1);
     }
 
@@ -67,9 +67,9 @@ module _ (room : ℕ) (fits : Bool) (o : Outcome (List Cell)) (d : List Float) (
   split-all e p i s′ s r l′ d′ n′ z′ L q M h k =
       subst (λ b. Split room b o r d n z l d′ n′ z′ l′) (sym e) (told-by o s r l′ d′ n′ z′ (subst (λ x. Listed room x s d′ n′ z′) (ap (λ x. then x p) (listed-is room i s′ d n z L) ∙ sym q) M) h k)
 
-pub whole-planes : (n : ℕ) → 12 * (n / 12) ≤ n
+pub whole-planes : (n : ℕ) → 13 * (n / 13) ≤ n
 whole-planes n = omega arith
 
 -- the call's own memory is enough
-pub memory : (room : ℕ) → room ≤ 6400 → (spare : List Float) (slots seats : List ℕ) → length spare ≡ 65536 → length slots ≡ 6528 → length seats ≡ 6401 → Places room spare slots seats
+pub memory : (room : ℕ) → room ≤ 6400 → (spare : List Float) (slots seats : List ℕ) → length spare ≡ 72064 → length slots ≡ 6528 → length seats ≡ 6401 → Places room spare slots seats
 memory room h spare slots seats hs hl ht = record { place = omega arith; slots = omega arith; seats = omega arith }

@@ -16,11 +16,11 @@ use Rattle.list_lent.specs.Lent.{listIn}
 
 -- a room of at most 6,400 corners, slices for its lists, and three numbers to tell
 unfoldable pub splitFits : ℕ → ℕ → ℕ → ℕ → ℕ → Bool
-splitFits room d n z told = leb room 6400 && ((leb (10 * room + 1536) d && leb (room + 128) n) && (ltb room z && leb 3 told))
+splitFits room d n z told = leb room 6400 && ((leb (11 * room + 1664) d && leb (room + 128) n) && (ltb room z && leb 3 told))
 
 -- 000, `split_cells`, of the first k cells of the slices; 64 where they hold no list of cells
 unfoldable pub splitLent : Precision → ℕ → List Float → ℕ → List Float → List ℕ → List ℕ → Outcome (List Cell)
-splitLent t room planes k d n z = then (listIn room k d n z) (splitAll t room (planesAt planes 0 (length planes / 12)))
+splitLent t room planes k d n z = then (listIn room k d n z) (splitAll t room (planesAt planes 0 (length planes / 13)))
 
 -- how many cells, faces and corners; untouched at a refusal
 unfoldable pub cellsTold : List ℕ → Outcome (List Cell) → List ℕ

@@ -22,7 +22,7 @@ fn split_fits(limit: usize, d: usize, counts: usize, sizes: usize, told: usize) 
     if ROOM < limit {
         return false;
     }
-    let lists = (10 * limit + 1536 <= d) & (limit + 128 <= counts);
+    let lists = (11 * limit + 1664 <= d) & (limit + 128 <= counts);
     lists & ((limit < sizes) & (3 <= told))
 }
 
@@ -44,7 +44,7 @@ fn put_stack(told: &mut [u64], s: Stack) -> u64
     }
 }
 
-// The first `cells` cells of `d`, `counts` and `sizes` are split by each of the planes, twelve floats a plane; their parts stand there
+// The first `cells` cells of `d`, `counts` and `sizes` are split by each of the planes, as a room holds planes; their parts stand there
 // then, and `told` gets how many cells, faces and corners they are. What stands behind the list, and everything after a refusal but
 // 64, is work memory. The call's own memory stands before its first return: the compiler mixes up the result of a return that comes
 // before a frame of many pages.
@@ -62,7 +62,7 @@ pub extern "C" fn leaf_split(
 ) -> u64
     ensures { λ r. ⌜ Split limit (splitFits limit (length (now (d .entry))) (length (now (counts .entry))) (length (now (sizes .entry))) (length (now (told .entry)))) (splitLent (record { linear = linear; local = local }) limit (now (planes .entry)) cells (now (d .entry)) (now (counts .entry)) (now (sizes .entry))) r (now (d .entry)) (now (counts .entry)) (now (sizes .entry)) (now (told .entry)) (now (d .exit)) (now (counts .exit)) (now (sizes .exit)) (now (told .exit)) ⌝ }
 {
-    let mut spare = [0.0; 65536];
+    let mut spare = [0.0; 72064];
     let mut slots = [0u64; 6528];
     let mut seats = [0u64; 6401];
     let fits = split_fits(limit, d.len(), counts.len(), sizes.len(), told.len());
@@ -75,7 +75,7 @@ pub extern "C" fn leaf_split(
         t,
         limit,
         planes,
-        planes.len() / 12,
+        planes.len() / room::PLANE,
         list,
         d,
         counts,

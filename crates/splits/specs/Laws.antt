@@ -40,7 +40,7 @@ pub passing-start : (src : List Float) (from : ℕ) (ns : List ℕ) (j faces : �
 passing-start src from ns j faces g = record { ahead = record { upto = omega arith; within = g .within }; rest = refl }
 
 pub passing-step : (src : List Float) (from : ℕ) (ns : List ℕ) (j faces o i : ℕ) → j + faces ≤ length ns → i < faces → Passing src from ns j faces o i →
-    Passing src from ns j faces (o + 12 + 3 * getD ns (j + i) 0) (i + 1)
+    Passing src from ns j faces (o + 13 + 3 * getD ns (j + i) 0) (i + 1)
 unfolding behind
 passing-step src from ns j faces o i listed h p = record {
   ahead = ahead-next src ns j faces o i listed h (p .ahead);
@@ -194,7 +194,7 @@ front-copied l s d k e h f = record {
 }
 
 list-copied : (room : ℕ) (s : Stack) (d : List Float) (n z : List ℕ) (d′ : List Float) (n′ z′ : List ℕ) → Holds room s d n z → Places room d′ n′ z′ →
-    Listed room (listAt s d n z) s (sets d′ 0 (take (12 * s .faces + 3 * s .corners) d)) (sets n′ 0 (take (s .faces) n)) (sets z′ 0 (take (s .cells) z))
+    Listed room (listAt s d n z) s (sets d′ 0 (take (13 * s .faces + 3 * s .corners) d)) (sets n′ 0 (take (s .faces) n)) (sets z′ 0 (take (s .cells) z))
 unfolding stackOf
 list-copied room s d n z d′ n′ z′ h p = record {
   is = h .is;
@@ -206,7 +206,7 @@ list-copied room s d n z d′ n′ z′ h p = record {
       let b : s .corners ≡ allCorners 0 cs = ap (λ x. x .corners) e in
       let c : s .cells ≡ length cs = ap (λ x. x .cells) e in
       record {
-        floats = front-copied (cellsFloats cs) d d′ (12 * s .faces + 3 * s .corners) (omega (arith, a, b, length-cellsFloats cs)) (omega (arith, a, b, length-cellsFloats cs, u .fit, u .wide, p .place)) (l .floats);
+        floats = front-copied (cellsFloats cs) d d′ (13 * s .faces + 3 * s .corners) (omega (arith, a, b, length-cellsFloats cs)) (omega (arith, a, b, length-cellsFloats cs, u .fit, u .wide, p .place)) (l .floats);
         counts = front-copied (cellsCounts cs) n n′ (s .faces) a (omega (arith, a, u .fit, u .wide, p .slots)) (l .counts);
         sizes = front-copied (cellsSizes cs) z z′ (s .cells) (omega (arith, c, length-cellsSizes cs)) (omega (arith, c, length-cellsSizes cs, u .fit, u .wide, u .some, p .seats)) (l .sizes);
         sound = l .sound;
@@ -215,7 +215,7 @@ list-copied room s d n z d′ n′ z′ h p = record {
 }
 
 pub list-placed : (room : ℕ) (s : Stack) (d : List Float) (n z : List ℕ) (d₀ : List Float) (n₀ z₀ : List ℕ) → Holds room s d n z → Places room d₀ n₀ z₀ → (d′ : List Float) (n′ z′ : List ℕ) →
-    d′ ≡ sets d₀ 0 (take (12 * s .faces + 3 * s .corners) d) → n′ ≡ sets n₀ 0 (take (s .faces) n) → z′ ≡ sets z₀ 0 (take (s .cells) z) → Listed room (listAt s d n z) s d′ n′ z′
+    d′ ≡ sets d₀ 0 (take (13 * s .faces + 3 * s .corners) d) → n′ ≡ sets n₀ 0 (take (s .faces) n) → z′ ≡ sets z₀ 0 (take (s .cells) z) → Listed room (listAt s d n z) s d′ n′ z′
 list-placed room s d n z d₀ n₀ z₀ h p d′ n′ z′ ed en ez = listed-same room refl refl (sym ed) (sym en) (sym ez) (list-copied room s d n z d₀ n₀ z₀ h p)
 
 pub list-carried : (room : ℕ) (q : Outcome (List Cell)) (s : Stack) (d : List Float) (n z : List ℕ) (d′ : List Float) (n′ z′ : List ℕ) → Listed room q s d n z → Listed room (listAt s d n z) s d′ n′ z′ →
@@ -245,21 +245,21 @@ module _ (room : ℕ) (s : Stack) (d : List Float) (n z : List ℕ) (h : Holds r
 
 -- ---- the walk over planes in a slice
 
-planes-from : (s : List Float) (at n i : ℕ) → i < n → drop i (planesAt s at n) ≡ planeAt s (at + 12 * i) ∷ drop (suc i) (planesAt s at n)
+planes-from : (s : List Float) (at n i : ℕ) → i < n → drop i (planesAt s at n) ≡ planeAt s (at + 13 * i) ∷ drop (suc i) (planesAt s at n)
 unfolding planesAt
 planes-from s at zero i h = absurd (not-suc-le-zero h)
-planes-from s at (suc n) zero h = ap (λ k. planeAt s k ∷ planesAt s (at + 12) n) (omega arith)
-planes-from s at (suc n) (suc i) h = planes-from s (at + 12) n i (le-of-suc-le-suc h) ∙ ap (λ k. planeAt s k ∷ drop (suc i) (planesAt s (at + 12) n)) (omega arith)
+planes-from s at (suc n) zero h = ap (λ k. planeAt s k ∷ planesAt s (at + 13) n) (omega arith)
+planes-from s at (suc n) (suc i) h = planes-from s (at + 13) n i (le-of-suc-le-suc h) ∙ ap (λ k. planeAt s k ∷ drop (suc i) (planesAt s (at + 13) n)) (omega arith)
 
-next-plane : (s : List Float) (n i : ℕ) → i < n → drop i (planesAt s 0 n) ≡ planeAt s (12 * i) ∷ drop (i + 1) (planesAt s 0 n)
-next-plane s n i h = planes-from s 0 n i h ∙ ap (λ k. planeAt s k ∷ drop (suc i) (planesAt s 0 n)) (omega arith) ∙ ap (λ k. planeAt s (12 * i) ∷ drop k (planesAt s 0 n)) (sym (add-one i))
+next-plane : (s : List Float) (n i : ℕ) → i < n → drop i (planesAt s 0 n) ≡ planeAt s (13 * i) ∷ drop (i + 1) (planesAt s 0 n)
+next-plane s n i h = planes-from s 0 n i h ∙ ap (λ k. planeAt s k ∷ drop (suc i) (planesAt s 0 n)) (omega arith) ∙ ap (λ k. planeAt s (13 * i) ∷ drop k (planesAt s 0 n)) (sym (add-one i))
 
 planes-done : (s : List Float) (at n i : ℕ) → n ≤ i → drop i (planesAt s at n) ≡ []
 unfolding planesAt
 planes-done s at zero zero h = refl
 planes-done s at zero (suc i) h = refl
 planes-done s at (suc n) zero h = absurd (not-suc-le-zero h)
-planes-done s at (suc n) (suc i) h = planes-done s (at + 12) n i (le-of-suc-le-suc h)
+planes-done s at (suc n) (suc i) h = planes-done s (at + 13) n i (le-of-suc-le-suc h)
 
 -- of n planes, i are done
 pub record Cutting (t : Precision) (room : ℕ) (ps : List Float) (n : ℕ) (whole : Outcome (List Cell)) (s : Stack) (d : List Float) (m z : List ℕ) (i : ℕ) : Type 0 where
@@ -273,7 +273,7 @@ unfolding splitAll
 cutting-start t room ps n s d m z h = record { upto = omega arith; holds = h; rest = refl }
 
 module _ {t : Precision} {room : ℕ} {ps : List Float} {n : ℕ} {whole : Outcome (List Cell)} {s : Stack} {d : List Float} {m z : List ℕ} {i : ℕ} (I : Cutting t room ps n whole s d m z i) where
-  pub cutting-step : (w : Plane) (r : Stack) (d′ : List Float) (m′ z′ : List ℕ) → i < n → w ≡ planeAt ps (12 * i) → Listed room (then (listAt s d m z) (λ cs. splitPlane t room cs w)) r d′ m′ z′ →
+  pub cutting-step : (w : Plane) (r : Stack) (d′ : List Float) (m′ z′ : List ℕ) → i < n → w ≡ planeAt ps (13 * i) → Listed room (then (listAt s d m z) (λ cs. splitPlane t room cs w)) r d′ m′ z′ →
       Cutting t room ps n whole r d′ m′ z′ (i + 1)
   cutting-step w r d′ m′ z′ h e l =
       let k = drop (i + 1) (planesAt ps 0 n) in
@@ -281,7 +281,7 @@ module _ {t : Precision} {room : ℕ} {ps : List Float} {n : ℕ} {whole : Outco
         upto = omega arith;
         holds = holds room _ r d′ m′ z′ l;
         rest = ap (λ q. onward (splitPlane t room) q k) (listed-is room _ r d′ m′ z′ l ∙ ap (λ x. then (listAt s d m z) (λ cs. splitPlane t room cs x)) e)
-            ∙ onward-next (splitPlane t room) (listAt s d m z) (planeAt ps (12 * i)) k ∙ ap (onward (splitPlane t room) (listAt s d m z)) (sym (next-plane ps n i h)) ∙ I .rest;
+            ∙ onward-next (splitPlane t room) (listAt s d m z) (planeAt ps (13 * i)) k ∙ ap (onward (splitPlane t room) (listAt s d m z)) (sym (next-plane ps n i h)) ∙ I .rest;
       }
 
   pub cutting-end : n ≤ i → Listed room whole s d m z
@@ -313,7 +313,7 @@ work-five f₀ p₀ a₀ o₀ c₀ f p a o c w l = work-on f₀ p₀ a₀ o₀ c
 pub record Copying (src : List Float) (from : ℕ) (ns : List ℕ) (j faces : ℕ) (p₀ : List Float) (k : ℕ) (p : List Float) (o i : ℕ) : Type 0 where
   pub ahead : Ahead src ns j faces o i
   pub same : length p ≡ length p₀
-  pub rest : sets p (12 * k + 12 * i) (planesFloats (cellAt src o (drop i (countsAt ns j faces)))) ≡ sets p₀ (12 * k) (planesFloats (cellAt src from (countsAt ns j faces)))
+  pub rest : sets p (13 * k + 13 * i) (planesFloats (cellAt src o (drop i (countsAt ns j faces)))) ≡ sets p₀ (13 * k) (planesFloats (cellAt src from (countsAt ns j faces)))
 
 pub copying-start : (src : List Float) (from : ℕ) (ns : List ℕ) (j faces : ℕ) (p : List Float) (k : ℕ) → Given src from ns j faces → Copying src from ns j faces p k p from 0
 copying-start src from ns j faces p k g = record {
@@ -323,20 +323,20 @@ copying-start src from ns j faces p k g = record {
 }
 
 module _ {src : List Float} {from : ℕ} {ns : List ℕ} {j faces : ℕ} {p₀ : List Float} {k : ℕ} {p : List Float} {o i : ℕ} (I : Copying src from ns j faces p₀ k p o i) where
-  pub copying-step : (w : Plane) (p′ : List Float) → j + faces ≤ length ns → i < faces → w ≡ planeAt src o → p′ ≡ sets p (12 * k + 12 * i) (planeFloats w) → length p′ ≡ length p →
-      Copying src from ns j faces p₀ k p′ (o + 12 + 3 * getD ns (j + i) 0) (i + 1)
+  pub copying-step : (w : Plane) (p′ : List Float) → j + faces ≤ length ns → i < faces → w ≡ planeAt src o → p′ ≡ sets p (13 * k + 13 * i) (planeFloats w) → length p′ ≡ length p →
+      Copying src from ns j faces p₀ k p′ (o + 13 + 3 * getD ns (j + i) 0) (i + 1)
   unfolding planesFloats
   copying-step w p′ listed h e g l =
-      let q = 12 * k + 12 * i in
-      let x = planesFloats (cellAt src (o + 12 + 3 * getD ns (j + i) 0) (drop (i + 1) (countsAt ns j faces))) in
+      let q = 13 * k + 13 * i in
+      let x = planesFloats (cellAt src (o + 13 + 3 * getD ns (j + i) 0) (drop (i + 1) (countsAt ns j faces))) in
       record {
         ahead = ahead-next src ns j faces o i listed h (I .ahead);
         same = l ∙ I .same;
-        rest = ap (λ y. sets y (12 * k + 12 * (i + 1)) x) (g ∙ ap (λ y. sets p q (planeFloats y)) e) ∙ ap (λ y. sets (sets p q (planeFloats (planeAt src o))) y x) (omega arith)
+        rest = ap (λ y. sets y (13 * k + 13 * (i + 1)) x) (g ∙ ap (λ y. sets p q (planeFloats y)) e) ∙ ap (λ y. sets (sets p q (planeFloats (planeAt src o))) y x) (omega arith)
             ∙ sets-append p q (planeFloats (planeAt src o)) x
             ∙ ap (λ c. sets p q (planesFloats c)) (sym (ahead-face src ns j faces o i listed h (I .ahead))) ∙ I .rest;
       }
 
-  pub copying-end : faces ≤ i → p ≡ sets p₀ (12 * k) (planesFloats (cellAt src from (countsAt ns j faces)))
+  pub copying-end : faces ≤ i → p ≡ sets p₀ (13 * k) (planesFloats (cellAt src from (countsAt ns j faces)))
   unfolding planesFloats
-  copying-end h = sym (ap (λ c. sets p (12 * k + 12 * i) (planesFloats c)) (ahead-done src ns j faces o i h)) ∙ I .rest
+  copying-end h = sym (ap (λ c. sets p (13 * k + 13 * i) (planesFloats c)) (ahead-done src ns j faces o i h)) ∙ I .rest

@@ -25,12 +25,12 @@ splitPlane t room cs p = then (oppositeOf t p) (λ o. splitOn t room p o cs)
 unfoldable pub splitAll : Precision → ℕ → List Plane → List Cell → Outcome (List Cell)
 splitAll t room ps cs = walk (splitPlane t room) cs ps
 
--- ---- planes in a slice, twelve floats each
+-- ---- planes in a slice, one behind another
 
 -- n planes from a place on
 unfoldable pub planesAt : List Float → ℕ → ℕ → List Plane
 planesAt s i zero = []
-planesAt s i (suc n) = planeAt s i ∷ planesAt s (i + 12) n
+planesAt s i (suc n) = planeAt s i ∷ planesAt s (i + 13) n
 
 -- the planes of a cell's faces, as they lie in memory
 unfoldable pub planesFloats : Cell → List Float

@@ -10,7 +10,7 @@ ghost use Prim.Native.Nat.{_+_, _*_, _≤_};
 ghost use lib.ListN.{length, take};
 ghost use lib.Seq.{sets};
 ghost use Rattle.refusal.specs.Outcome.{then};
-ghost use Rattle.room.specs.Rooms.{cellAt, countsAt};
+ghost use Rattle.room.specs.Rooms.{planeSize, cellAt, countsAt};
 ghost use Rattle.clip.specs.Clips.{Given};
 ghost use Rattle.stack.specs.Stacks.{behind, cellsAt, listAt, Listed, Holds, Places, Work};
 ghost use Rattle.splits.specs.Planes.{splitOn, splitPlane, splitAll, planesAt, planesFloats, Standing};
@@ -24,7 +24,7 @@ fn passed(src: &[f64], from: usize, counts: &[u64], j: usize, faces: usize) -> u
     let mut i = 0;
     while i < faces {
         let n = counts[j + i] as usize;
-        o = o + 12 + 3 * n;
+        o = o + room::PLANE + 3 * n;
         i += 1;
     }
     o
@@ -103,7 +103,7 @@ fn copy_list(
     let f = s.faces;
     let n = s.corners;
     let k = s.cells;
-    stack::copy_floats(src, 12 * f + 3 * n, dst);
+    stack::copy_floats(src, room::PLANE * f + 3 * n, dst);
     stack::copy_counts(corners, f, counts);
     stack::copy_counts(faces, k, sizes);
 }
@@ -204,7 +204,7 @@ fn split_plane(
     }
 }
 
-// The list is split by each of n planes in turn, whose floats stand in `planes`, twelve for each.
+// The list is split by each of n planes in turn, which stand in `planes` one behind another.
 pub fn split_cells(
     t: Precision,
     limit: usize,
@@ -218,7 +218,7 @@ pub fn split_cells(
     slots: &mut [u64],
     seats: &mut [u64],
 ) -> Stack
-    requires { ⌜ (12 * n ≤ length (now planes)) × Holds limit list (now dst) (now counts) (now sizes) × Places limit (now dst) (now counts) (now sizes) ⌝ }
+    requires { ⌜ (planeSize * n ≤ length (now planes)) × Holds limit list (now dst) (now counts) (now sizes) × Places limit (now dst) (now counts) (now sizes) ⌝ }
     requires { ⌜ Places limit (now spare) (now slots) (now seats) ⌝ }
     ensures { λ r. ⌜ Listed limit (then (listAt list (now (dst .entry)) (now (counts .entry)) (now (sizes .entry))) (splitAll t limit (planesAt (now (planes .entry)) 0 n))) r (now (dst .exit)) (now (counts .exit)) (now (sizes .exit)) ⌝ }
 {
@@ -230,7 +230,7 @@ pub fn split_cells(
     let mut s = list;
     let mut i = 0;
     while i < n {
-        let w = room::get_plane(planes, 12 * i);
+        let w = room::get_plane(planes, room::PLANE * i);
         s = split_plane(
             t,
             limit,
@@ -263,16 +263,16 @@ pub fn planes_of(
     planes: &mut [f64],
     k: usize,
 )
-    requires { ⌜ Given (now src) from (now corners) j faces × (12 * k + 12 * faces ≤ length (now planes)) ⌝ }
-    ensures { λ _. ⌜ now (planes .exit) ≡ sets (now (planes .entry)) (12 * k) (planesFloats (cellAt (now (src .entry)) from (countsAt (now (corners .entry)) j faces))) ⌝ }
+    requires { ⌜ Given (now src) from (now corners) j faces × (planeSize * k + planeSize * faces ≤ length (now planes)) ⌝ }
+    ensures { λ _. ⌜ now (planes .exit) ≡ sets (now (planes .entry)) (planeSize * k) (planesFloats (cellAt (now (src .entry)) from (countsAt (now (corners .entry)) j faces))) ⌝ }
 {
     let mut o = from;
     let mut i = 0;
     while i < faces {
         let n = corners[j + i] as usize;
         let w = room::get_plane(src, o);
-        room::put_plane(planes, 12 * k + 12 * i, w);
-        o = o + 12 + 3 * n;
+        room::put_plane(planes, room::PLANE * k + room::PLANE * i, w);
+        o = o + room::PLANE + 3 * n;
         i += 1;
     }
 }

@@ -42,7 +42,7 @@ pub all-corners-snoc : (cs : List Cell) (c : Cell) → allCorners 0 (cs ++ (c �
 all-corners-snoc [] c = omega (arith, all-corners-cons c [], all-corners-none)
 all-corners-snoc (b ∷ cs) c = omega (arith, all-corners-snoc cs c, all-corners-cons b cs, all-corners-cons b (cs ++ (c ∷ [])))
 
-pub length-cellsFloats : (cs : List Cell) → length (cellsFloats cs) ≡ 12 * length (cellsCounts cs) + 3 * allCorners 0 cs
+pub length-cellsFloats : (cs : List Cell) → length (cellsFloats cs) ≡ 13 * length (cellsCounts cs) + 3 * allCorners 0 cs
 unfolding cellsFloats cellsCounts
 length-cellsFloats [] = omega (arith, all-corners-none)
 length-cellsFloats (c ∷ cs) =
@@ -76,7 +76,7 @@ pub behind-cell : (c : Cell) (at : ℕ) → behind at (cellCounts c) ≡ at + le
 unfolding behind cellCounts
 behind-cell [] at = omega (arith, length-cellFloats [], corners-none)
 behind-cell (f ∷ c) at =
-    behind-cell c (at + 12 + 3 * length (f .points))
+    behind-cell c (at + 13 + 3 * length (f .points))
     ∙ omega (arith, length-cellFloats c, length-cellFloats (f ∷ c), corners-cons f c)
 
 cells-back : (a : List Float) (cs : List Cell) (b : List Float) (i : ℕ) (m : List ℕ) → i ≡ length a →
@@ -181,17 +181,17 @@ sizes-snoc (b ∷ cs) c = ap (λ l. length b ∷ l) (sizes-snoc cs c)
 -- the cell's floats and counts were put behind the list, and its number of faces too
 pub lies-more : (room : ℕ) (cs : List Cell) (c : Cell) (d : List Float) (n z : List ℕ) → Lies room cs d n z → Places room d n z → Sound c →
     allCorners 0 cs + corners 0 c ≤ room →
-    Lies room (cs ++ (c ∷ [])) (sets d (12 * length (cellsCounts cs) + 3 * allCorners 0 cs) (cellFloats c)) (sets n (length (cellsCounts cs)) (cellCounts c)) (set z (length cs) (length c))
+    Lies room (cs ++ (c ∷ [])) (sets d (13 * length (cellsCounts cs) + 3 * allCorners 0 cs) (cellFloats c)) (sets n (length (cellsCounts cs)) (cellCounts c)) (set z (length cs) (length c))
 lies-more room cs c d n z l p s h =
     let w = wide-corners c (s .wide) in
     let v = sound-corners cs (l .sound) in
     let u = sound-faces cs (l .sound) in
     let k = length-cellCounts c in
-    let a : 12 * length (cellsCounts cs) + 3 * allCorners 0 cs + length (cellFloats c) ≤ length d = omega (arith, length-cellFloats c, p .place) in
+    let a : 13 * length (cellsCounts cs) + 3 * allCorners 0 cs + length (cellFloats c) ≤ length d = omega (arith, length-cellFloats c, p .place) in
     let b : length (cellsCounts cs) + length (cellCounts c) ≤ length n = omega (arith, p .slots) in
     let e : length cs + 1 ≤ length z = omega (arith, p .seats) in
     record {
-      floats = subst (λ x. Front x (sets d (12 * length (cellsCounts cs) + 3 * allCorners 0 cs) (cellFloats c))) (sym (floats-snoc cs c)) (front-more (cellsFloats cs) d (cellFloats c) (12 * length (cellsCounts cs) + 3 * allCorners 0 cs) (sym (length-cellsFloats cs)) a (l .floats));
+      floats = subst (λ x. Front x (sets d (13 * length (cellsCounts cs) + 3 * allCorners 0 cs) (cellFloats c))) (sym (floats-snoc cs c)) (front-more (cellsFloats cs) d (cellFloats c) (13 * length (cellsCounts cs) + 3 * allCorners 0 cs) (sym (length-cellsFloats cs)) a (l .floats));
       counts = subst (λ x. Front x (sets n (length (cellsCounts cs)) (cellCounts c))) (sym (counts-snoc cs c)) (front-more (cellsCounts cs) n (cellCounts c) (length (cellsCounts cs)) refl b (l .counts));
       sizes = subst (λ x. Front x (set z (length cs) (length c))) (sym (sizes-snoc cs c)) (front-more (cellsSizes cs) z (length c ∷ []) (length cs) (sym (length-cellsSizes cs)) e (l .sizes));
       sound = all-snoc Sound cs c (l .sound) s;

@@ -37,7 +37,7 @@ cellsSizes (c ∷ cs) = length c ∷ cellsSizes cs
 -- the place behind a cell of faces with these numbers of corners
 unfoldable pub behind : ℕ → List ℕ → ℕ
 behind at [] = at
-behind at (n ∷ ns) = behind (at + 12 + 3 * n) ns
+behind at (n ∷ ns) = behind (at + 13 + 3 * n) ns
 
 -- the cells with these numbers of faces from a place on; ns has the numbers of corners of their faces at its front
 unfoldable pub cellsAt : List Float → ℕ → List ℕ → List ℕ → List Cell
@@ -99,7 +99,7 @@ Holds room s d n z = Listed room (listAt s d n z) s d n z
 
 -- the slices are long enough for every list that fits the room, and for a cell behind it
 pub record Places (room : ℕ) (d : List Float) (n z : List ℕ) : Type 0 where
-  pub place : 10 * room + 1536 ≤ length d
+  pub place : 11 * room + 1664 ≤ length d
   pub slots : room + 128 ≤ length n
   pub seats : room < length z
 

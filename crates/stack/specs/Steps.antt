@@ -103,18 +103,18 @@ stack-eq k k′ f f′ n n′ a b c = λ i. record { verdict = Fine; cells = a i
 
 module _ (room : ℕ) (cs : List Cell) (c : Cell) (d : List Float) (n z : List ℕ) (l : Lies room cs d n z) (p : Places room d n z) (k : Sound c) where
   push-by : (b : Bool) → isOver room (allCorners 0 cs) (corners 0 c) ≡ b →
-      Listed room (unless b 12 (ok (cs ++ (c ∷ [])))) (pushed b (stackOf (ok cs)) (length c) (corners 0 c)) (sets d (12 * length (cellsCounts cs) + 3 * allCorners 0 cs) (cellFloats c)) (sets n (length (cellsCounts cs)) (cellCounts c)) (seated b (stackOf (ok cs)) (length c) z)
+      Listed room (unless b 12 (ok (cs ++ (c ∷ [])))) (pushed b (stackOf (ok cs)) (length c) (corners 0 c)) (sets d (13 * length (cellsCounts cs) + 3 * allCorners 0 cs) (cellFloats c)) (sets n (length (cellsCounts cs)) (cellCounts c)) (seated b (stackOf (ok cs)) (length c) z)
   unfolding pushed seated stackOf
   push-by true e = listed-refused room (refusalOf 12) _ _ _ _ refl
   push-by false e = record {
     is = stack-eq _ _ _ _ _ _ (sym (length-append cs (c ∷ [])))
         (sym (ap length (counts-snoc cs c) ∙ length-append (cellsCounts cs) (cellCounts c) ∙ ap (λ x. length (cellsCounts cs) + x) (length-cellCounts c)))
         (sym (all-corners-snoc cs c));
-    lies = λ x h. subst (λ y. Lies room y (sets d (12 * length (cellsCounts cs) + 3 * allCorners 0 cs) (cellFloats c)) (sets n (length (cellsCounts cs)) (cellCounts c)) (set z (length cs) (length c))) (same-ok h) (lies-more room cs c d n z l p k (not-over room (allCorners 0 cs) (corners 0 c) (l .fit) e));
+    lies = λ x h. subst (λ y. Lies room y (sets d (13 * length (cellsCounts cs) + 3 * allCorners 0 cs) (cellFloats c)) (sets n (length (cellsCounts cs)) (cellCounts c)) (set z (length cs) (length c))) (same-ok h) (lies-more room cs c d n z l p k (not-over room (allCorners 0 cs) (corners 0 c) (l .fit) e));
   }
 
   pub push-listed : (s : Stack) (f m : ℕ) (r : Stack) (d′ : List Float) (n′ z′ : List ℕ) → s ≡ stackOf (ok cs) → f ≡ length c → m ≡ corners 0 c →
-      d′ ≡ sets d (12 * s .faces + 3 * s .corners) (cellFloats c) → n′ ≡ sets n (s .faces) (cellCounts c) →
+      d′ ≡ sets d (13 * s .faces + 3 * s .corners) (cellFloats c) → n′ ≡ sets n (s .faces) (cellCounts c) →
       r ≡ pushed (isOver room (s .corners) m) s f m → z′ ≡ seated (isOver room (s .corners) m) s f z →
       Listed room (addCell room cs c) r d′ n′ z′
   unfolding addCell stackOf
@@ -123,7 +123,7 @@ module _ (room : ℕ) (cs : List Cell) (c : Cell) (d : List Float) (n z : List �
       listed-same room
       (ap (λ x. unless x 12 (ok (cs ++ (c ∷ [])))) (over-same room (allCorners 0 cs) (corners 0 c) (l .fit) ∙ ap (ltb room) (sym (all-corners-from (corners 0 c) cs))))
       (ap (λ x. pushed (isOver room (allCorners 0 cs) x) (stackOf (ok cs)) (length c) x) (sym em) ∙ ap (λ x. pushed (isOver room (allCorners 0 cs) m) (stackOf (ok cs)) x m) (sym ef) ∙ ap (λ x. pushed (isOver room (x .corners) m) x f m) (sym es) ∙ sym er)
-      (ap (λ x. sets d (12 * x .faces + 3 * x .corners) (cellFloats c)) (sym es) ∙ sym ed)
+      (ap (λ x. sets d (13 * x .faces + 3 * x .corners) (cellFloats c)) (sym es) ∙ sym ed)
       (ap (λ x. sets n (x .faces) (cellCounts c)) (sym es) ∙ sym en)
       (ap (λ x. seated (isOver room (allCorners 0 cs) x) (stackOf (ok cs)) (length c) z) (sym em) ∙ ap (λ x. seated (isOver room (allCorners 0 cs) m) (stackOf (ok cs)) x z) (sym ef) ∙ ap (λ x. seated (isOver room (x .corners) m) x f z) (sym es) ∙ sym ez)
       (push-by b refl)
@@ -162,7 +162,7 @@ module _ (t : Precision) (room : ℕ) (w : Plane) (c : Cell) (s : Stack) (p : Cl
       let o : clip t room w c ≡ refused e = sym (x .is) ∙ ap (λ y. told y (x .cell)) q in
       subst (λ y. Listed room y r d′ n′ z) (sym (step-of room (addCut t room w c) s d n z g ∙ ap (λ y. then y (addPart room (g .cells))) o)) (listed-refused room e r d′ n′ z er)
 
-  cut-part : (f m : ℕ) (r : Stack) (z′ : List ℕ) → p ≡ C.Part f m → Wide c → Places room d n z → at ≡ 12 * s .faces + 3 * s .corners → k ≡ s .faces →
+  cut-part : (f m : ℕ) (r : Stack) (z′ : List ℕ) → p ≡ C.Part f m → Wide c → Places room d n z → at ≡ 13 * s .faces + 3 * s .corners → k ≡ s .faces →
       r ≡ pushed (isOver room (s .corners) m) s f m → z′ ≡ seated (isOver room (s .corners) m) s f z →
       Listed room (then (listAt s d n z) (addCut t room w c)) r d′ n′ z′
   unfolding told Sized addCut addPart
@@ -176,7 +176,7 @@ module _ (t : Precision) (room : ℕ) (w : Plane) (c : Cell) (s : Stack) (p : Cl
       (x .floats ∙ ap (λ i. sets d i (cellFloats (x .cell))) ea) (x .counts ∙ ap (λ i. sets n i (cellCounts (x .cell))) ek) er ez)
 
   -- whatever the cut answers
-  pub cut-joined : (q : Clipped) (r : Stack) (z′ : List ℕ) → p ≡ q → Wide c → Places room d n z → at ≡ 12 * s .faces + 3 * s .corners → k ≡ s .faces →
+  pub cut-joined : (q : Clipped) (r : Stack) (z′ : List ℕ) → p ≡ q → Wide c → Places room d n z → at ≡ 13 * s .faces + 3 * s .corners → k ≡ s .faces →
       r ≡ joined room s q → z′ ≡ joinedSizes room s q z → Listed room (then (listAt s d n z) (addCut t room w c)) r d′ n′ z′
   unfolding joined joinedSizes
   cut-joined C.Nothing r z′ e a places ea ek er ez = listed-same room refl (sym er) refl refl (sym ez) (cut-nothing e)
@@ -198,7 +198,7 @@ module _ (room : ℕ) (c : Cell) (s : Stack) (kept : Kept) (d : List Float) (at 
   pub whole-bound : kept .verdict ≡ Fine → Wide c → 3 * kept .faces ≤ kept .corners
   whole-bound e a = omega (arith, x .faces-are, x .corners-are, wide-corners (x .cell) (subst Wide (sym (whole-is e)) a))
 
-  pub whole-added : (r : Stack) (z′ : List ℕ) → kept .verdict ≡ Fine → 1 ≤ length c → Wide c → Places room d n z → at ≡ 12 * s .faces + 3 * s .corners → k ≡ s .faces →
+  pub whole-added : (r : Stack) (z′ : List ℕ) → kept .verdict ≡ Fine → 1 ≤ length c → Wide c → Places room d n z → at ≡ 13 * s .faces + 3 * s .corners → k ≡ s .faces →
       r ≡ pushed (isOver room (s .corners) (kept .corners)) s (kept .faces) (kept .corners) → z′ ≡ seated (isOver room (s .corners) (kept .corners)) s (kept .faces) z →
       Listed room (then (listAt s d n z) (λ cs. addCell room cs c)) r d′ n′ z′
   whole-added r z′ e one a places ea ek er ez =
@@ -207,7 +207,7 @@ module _ (room : ℕ) (c : Cell) (s : Stack) (kept : Kept) (d : List Float) (at 
       let b : Sound c = record { some = one; wide = a; small = subst Small q (x .small) } in
       subst (λ y. Listed room y r d′ n′ z′) (sym (step-of room (λ cs. addCell room cs c) s d n z g))
       (push-listed room (g .cells) c d n z (g .lies) places b s (kept .faces) (kept .corners) r d′ n′ z′ (g .told) (x .faces-are ∙ ap length q) (x .corners-are ∙ ap (corners 0) q)
-      (x .floats ∙ ap (λ i. sets d i (cellFloats (x .cell))) ea ∙ ap (λ i. sets d (12 * s .faces + 3 * s .corners) (cellFloats i)) q)
+      (x .floats ∙ ap (λ i. sets d i (cellFloats (x .cell))) ea ∙ ap (λ i. sets d (13 * s .faces + 3 * s .corners) (cellFloats i)) q)
       (x .counts ∙ ap (λ i. sets n i (cellCounts (x .cell))) ek ∙ ap (λ i. sets n (s .faces) (cellCounts i)) q) er ez)
 
   pub whole-refused : (e : Refusal) (r : Stack) → kept .verdict ≡ Refused e → r ≡ stackOf (refused e) → Listed room (then (listAt s d n z) (λ cs. addCell room cs c)) r d′ n′ z

@@ -115,7 +115,7 @@ pub fn add_part(
     let Verdict::Fine = v else {
         return s;
     };
-    let at = 12 * k + 3 * held;
+    let at = room::PLANE * k + 3 * held;
     let p = clip::clip(
         t,
         limit,
@@ -161,7 +161,7 @@ pub fn add_cell(
     let Verdict::Fine = v else {
         return s;
     };
-    let at = 12 * k + 3 * held;
+    let at = room::PLANE * k + 3 * held;
     let r = cell::left_cell(limit, src, from, sizes, j, faces, dst, at, counts, k);
     let w = r.verdict;
     match w {

@@ -52,6 +52,7 @@ triple a b c = record { x = a; y = b; z = c }
 abbrev pub wall : Plane
 wall = record {
   frame = record { origin = triple none none none; x = triple none one none; y = triple none none one; z = triple one none none };
+  mark = none;
 }
 
 abbrev pub at : Float → Point3

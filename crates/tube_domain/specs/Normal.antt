@@ -23,7 +23,7 @@ use Rattle.space.specs.declared.Frame.{Frame}
 use Rattle.space.specs.declared.Plane.{Plane}
 use Rattle.space.specs.declared.Precision.{Precision}
 use Rattle.space.specs.Vector.{subV, negV, overV, crossV, lengthV, finest, fairPrecision, fair}
-use Rattle.space.specs.Frames.{short, frameOn, frameBy, hintOn, frameAlong, frameUp, frameOf, onFrame, planeOf, facePlane}
+use Rattle.space.specs.Frames.{short, frameOn, frameBy, hintOn, frameAlong, frameUp, frameOf, onFrame, planeOf, remark, withMark, facePlane}
 use Rattle.side.specs.Sides.{oppositeOf}
 use Rattle.tube_domain.specs.Size.{Size, Size3, size-more, size-neg, sub-size, mul-size}
 use Rattle.tube_domain.specs.Length.{length-held, over-length}
@@ -131,5 +131,8 @@ module _ {t : Precision} (F : Fair t) {k : ℕ} where
 
   -- and the plane turned round
   pub opposite-framed : (w v : Plane) → Framed k w → oppositeOf t w ≡ ok v → Framed k v
-  unfolding oppositeOf
-  opposite-framed w v f e = plane-framed (w .frame .origin) (negV (w .frame .z)) (w .frame .x) v (f .from) (size3-more (omega arith) (neg3-size (f .normal))) e
+  unfolding oppositeOf remark
+  opposite-framed w v f e =
+      let q = then-ok (planeOf t (w .frame .origin) (negV (w .frame .z)) (w .frame .x)) (withMark (w .mark)) v e in
+      let g = plane-framed (w .frame .origin) (negV (w .frame .z)) (w .frame .x) (q .0) (f .from) (size3-more (omega arith) (neg3-size (f .normal))) (q .1) in
+      subst (Framed k) (same-ok (q .2)) (record { from = g .from; normal = g .normal })

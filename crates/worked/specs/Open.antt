@@ -8,7 +8,7 @@ use Rattle.interval.specs.Box.{dotI, dot0, differenceI, residualI, crossI}
 use Rattle.refusal.specs.Outcome.{walk, each}
 use Rattle.lists.specs.Walks.{pairsTo, cyclic, numbered, all}
 use Rattle.space.specs.Vector.{subV, addV, scaleV, overV, negV, dotV, crossV, lengthV, boxOf, fairPrecision, finitePoint}
-use Rattle.space.specs.Frames.{short, frameOn, frameBy, hintOn, frameAlong, frameUp, frameOf, planeOf, facePlane, localOf}
+use Rattle.space.specs.Frames.{short, frameOn, frameBy, hintOn, frameAlong, frameUp, frameOf, planeOf, remark, facePlane, localOf}
 use Rattle.space.specs.Near.{closenessOf, gapI, nearOf}
 use Rattle.space.specs.Shapes.{corners, allCorners}
 use Rattle.side.specs.Sides.{distanceOf, heightOf, classed, sideOf, oppositeOf}
@@ -31,7 +31,7 @@ unfolding dotI differenceI crossI addI subI mulI outward hullOf squareOf sqrI ho
 openNumbers = tt
 
 unfoldable pub openSpace : Unit {0}
-unfolding openNumbers walk each pairsTo cyclic numbered all subV addV scaleV overV negV dotV crossV lengthV boxOf short frameOn frameBy hintOn frameAlong frameUp frameOf planeOf facePlane localOf closenessOf gapI nearOf corners allCorners
+unfolding openNumbers walk each pairsTo cyclic numbered all subV addV scaleV overV negV dotV crossV lengthV boxOf short frameOn frameBy hintOn frameAlong frameUp frameOf planeOf remark facePlane localOf closenessOf gapI nearOf corners allCorners
 openSpace = tt
 
 unfoldable pub openSide : Unit {0}

@@ -3,7 +3,7 @@ use Prim.Native.Nat.{ℕ}
 use mathlib.Core.Bool.{Bool, true, false}
 use mathlib.Core.List.{List, [], _∷_}
 use lib.IntN.{pos, negsuc}
-use lib.Ieee.{Float, fin}
+use lib.Ieee.{Float, fin, binary64, ofBits}
 use Rattle.space.specs.declared.Point3.{Point3}
 use Rattle.space.specs.declared.Plane.{Plane}
 use Rattle.space.specs.declared.Precision.{Precision}
@@ -33,7 +33,7 @@ abbrev pub tol : Precision
 tol = record { linear = fin false 1 (negsuc 19); local = fin false 1 (negsuc 17) }
 
 abbrev pub plane : Point3 → Point3 → Point3 → Point3 → Plane
-plane o x y z = record { frame = record { origin = o; x = x; y = y; z = z } }
+plane o x y z = record { frame = record { origin = o; x = x; y = y; z = z }; mark = ofBits binary64 0 }
 
 abbrev pub face : Plane → List Point3 → Face
 face p l = record { plane = p; points = l }

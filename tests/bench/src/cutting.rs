@@ -2,20 +2,16 @@
 use crate::timed::row;
 use gen::{cuts, facets};
 use oracle::leaf::{ReadyCut, ReadyMesh};
-use port::cutting::{Cutter, Given};
+use port::cutting::{face, Cutter, Given};
 use port::mesh::Mesher;
 
 const CELLS: usize = 8;
 const ROOM: usize = 720;
 
 fn given(cut: &cuts::Cut) -> Given {
-    let mut floats = Vec::new();
-    for f in &cut.cell {
-        floats.extend_from_slice(&f.plane);
-        floats.extend_from_slice(f.points.as_flattened());
-    }
+    let faces = cut.cell.iter();
     Given {
-        floats,
+        floats: faces.flat_map(|f| face(&f.plane, 0.0, &f.points)).collect(),
         sizes: cut.cell.iter().map(|f| f.points.len() as u64).collect(),
         from: 0,
         j: 0,

@@ -99,14 +99,18 @@ fn hulls(report: &mut Report, cutter: &mut Cutter, seed: u64, scale: Scale) {
     );
 }
 
+/// The face as a room holds it, with the mark of the plane that cuts.
+fn stored(f: &Face) -> impl Iterator<Item = f64> + '_ {
+    port::cutting::face(&f.plane, 0.0, &f.points)
+}
+
 /// The cell's floats with others before them, and the places behind others.
 fn laid(random: &mut Random, cell: &Cell, limit: usize) -> Given {
     let [from, j, at, k] = [(); 4].map(|()| random.below(4));
     let mut floats: Vec<_> = (0..from).map(|_| ask::float(random)).collect();
     let mut sizes: Vec<_> = (0..j).map(|_| random.bits()).collect();
     for f in cell {
-        floats.extend_from_slice(&f.plane);
-        floats.extend_from_slice(f.points.as_flattened());
+        floats.extend(stored(f));
         sizes.push(f.points.len() as u64);
     }
     Given {
@@ -124,12 +128,8 @@ fn laid(random: &mut Random, cell: &Cell, limit: usize) -> Given {
 type Part = Option<(Vec<u64>, Vec<u64>)>;
 
 fn part(cell: Option<Cell>) -> Part {
-    let floats = |f: &Face| -> Vec<f64> {
-        let corners = f.points.as_flattened();
-        f.plane.iter().chain(corners).copied().collect()
-    };
     cell.map(|c| {
-        let numbers = c.iter().flat_map(floats).map(bits).collect();
+        let numbers = c.iter().flat_map(stored).map(bits).collect();
         (numbers, c.iter().map(|f| f.points.len() as u64).collect())
     })
 }

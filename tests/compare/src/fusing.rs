@@ -5,19 +5,23 @@ use gen::family::Family;
 use gen::lists::{self, List, ROOM};
 use gen::Random;
 use oracle::{bodies_bytes, leaf};
+use port::cutting::face;
 use port::fusing::{Fuser, Given, NONE};
 
 const EACH: usize = 5_000;
 
+/// The mark of every plane that is handed in. It changes no answer, and every plane of one has it too.
+pub const MARK: f64 = 7.25;
+
 pub fn given(list: &List) -> Given {
     let faces = || list.cells.iter().flatten();
-    let floats = faces().flat_map(|f| f.plane.iter().chain(f.points.as_flattened()));
+    let floats = faces().flat_map(|f| face(&f.plane, MARK, &f.points));
     let count = |n: usize| n as u64;
     Given {
         tolerances: [list.tolerances.linear, list.tolerances.local],
         room: list.room,
         cells: list.cells.len(),
-        floats: floats.copied().collect(),
+        floats: floats.collect(),
         counts: faces().map(|f| count(f.points.len())).collect(),
         sizes: list.cells.iter().map(|c| count(c.len())).collect(),
     }

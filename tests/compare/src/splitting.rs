@@ -1,12 +1,13 @@
 //! `split_cells` of lists of cells: the number, every bit of the parts, and that all else is as it was.
 use crate::bits::bits;
-use crate::fusing::{given, with};
+use crate::fusing::{given, with, MARK};
 use crate::report::{Report, Told};
 use crate::Scale;
 use gen::family::Family;
 use gen::lists::{self, List, Split};
 use gen::Random;
 use oracle::leaf;
+use port::cutting::plane;
 use port::fusing::{Given, NONE};
 use port::splitting::{Parts, Splitter};
 
@@ -19,7 +20,8 @@ fn bits_of((floats, counts, sizes): Parts) -> Bits {
 }
 
 fn ours(splitter: &mut Splitter, s: &Split) -> Told<Bits> {
-    let told = splitter.split(s.planes.as_flattened(), &given(&s.list));
+    let planes: Vec<_> = s.planes.iter().flat_map(|w| plane(w, MARK)).collect();
+    let told = splitter.split(&planes, &given(&s.list));
     told.clean.then(|| told.answer.map(bits_of))
 }
 

@@ -70,9 +70,9 @@ macro_rules! entry {
 }
 
 entry!(FUSE = solid_fuse() {
-    rest: f64 = 3 * corners + 1920,
-    spare: f64 = 10 * corners + 1536,
-    dst: f64 = 10 * corners + 1536,
+    rest: f64 = 3 * corners + 1984,
+    spare: f64 = 11 * corners + 1664,
+    dst: f64 = 11 * corners + 1664,
     held: u64 = 1 * corners + 128,
     slots: u64 = 1 * corners + 128,
     counts: u64 = 1 * corners + 128,
@@ -94,9 +94,9 @@ entry!(FUSE = solid_fuse() {
 });
 
 entry!(CELLS = solid_cells() {
-    rest: f64 = 3 * corners + 1920,
-    spare: f64 = 3 * corners + 1536,
-    dst: f64 = 10 * corners + 1536,
+    rest: f64 = 3 * corners + 1984,
+    spare: f64 = 3 * corners + 1664,
+    dst: f64 = 11 * corners + 1664,
     held: u64 = 1 * corners + 128,
     slots: u64 = 1 * corners + 128,
     counts: u64 = 1 * corners + 128,
@@ -111,16 +111,16 @@ entry!(CELLS = solid_cells() {
 });
 
 entry!(OFFSET = solid_offset(distance) {
-    s: f64 = 0 * corners + 3840,
+    s: f64 = 0 * corners + 3968,
     counts: u64 = 0 * corners + 128,
-    dst: f64 = 0 * corners + 1920,
+    dst: f64 = 0 * corners + 1984,
     sizes: u64 = 0 * corners + 64,
 });
 
 entry!(HOLLOW = solid_hollow(thickness) {
-    s: f64 = 0 * corners + 3840,
+    s: f64 = 0 * corners + 3968,
     counts: u64 = 0 * corners + 128,
-    dst: f64 = 0 * corners + 1920,
+    dst: f64 = 0 * corners + 1984,
     sizes: u64 = 0 * corners + 64,
 });
 

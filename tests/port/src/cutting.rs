@@ -76,6 +76,12 @@ const UNCOUNTED: u64 = u64::MAX;
 const FACE: usize = 384;
 const CAP: usize = 3072;
 
+/// How many numbers a plane takes in a room: its own twelve, and its mark.
+pub const PLANE: usize = 13;
+
+/// The floats of a cell's planes at most.
+pub const PLANES: usize = 128 * PLANE;
+
 /// The most floats and numbers of one call.
 const MOST: usize = 1 << 17;
 
@@ -114,6 +120,16 @@ pub type Part = Option<(Vec<f64>, Vec<u64>)>;
 pub struct Told<T> {
     pub answer: Result<T, u64>,
     pub clean: bool,
+}
+
+/// A plane as a room holds it.
+pub fn plane(w: &Plane, mark: f64) -> impl Iterator<Item = f64> + '_ {
+    w.iter().copied().chain([mark])
+}
+
+/// A face as a room holds it: its plane, then its corners.
+pub fn face<'a>(w: &'a Plane, mark: f64, corners: &'a [Point]) -> impl Iterator<Item = f64> + 'a {
+    plane(w, mark).chain(corners.as_flattened().iter().copied())
 }
 
 fn as_it_was(list: &[f64]) -> bool {
@@ -291,7 +307,7 @@ impl Cutter {
             };
         }
         let [faces, corners] = [told[0] as usize, told[1] as usize];
-        let n = 12 * faces + 3 * corners;
+        let n = PLANE * faces + 3 * corners;
         let clean = kept && as_it_was(&behind[n..]) && uncounted(&count[faces..]);
         let part = (faces > 0).then(|| (behind[..n].to_vec(), count[..faces].to_vec()));
         Told {
@@ -303,7 +319,7 @@ impl Cutter {
 
 /// The floats that a call has to lend for its answer.
 fn places(cell: &Given) -> usize {
-    cell.at + 1536 + 3 * cell.limit
+    cell.at + PLANES + 3 * cell.limit
 }
 
 impl Default for Cutter {

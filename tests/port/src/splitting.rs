@@ -1,5 +1,5 @@
 //! The port's `split_cells`. Every slice ends right before an unreadable page.
-use crate::cutting::Told;
+use crate::cutting::{Told, PLANE, PLANES};
 use crate::fusing::{Given, NONE};
 use crate::guard::Tail;
 
@@ -33,6 +33,11 @@ const BEHIND: u64 = u64::MAX;
 /// The floats of a list's faces, their numbers of corners, and the cells' numbers of faces.
 pub type Parts = (Vec<f64>, Vec<u64>, Vec<u64>);
 
+/// The floats that a list of so many corners has to be lent.
+fn floats_of(room: usize) -> usize {
+    11 * room + PLANES
+}
+
 pub struct Splitter {
     planes: Tail<f64>,
     floats: Tail<f64>,
@@ -45,7 +50,7 @@ impl Splitter {
     pub fn new() -> Self {
         Splitter {
             planes: Tail::new(1 << 13, 0.0),
-            floats: Tail::new(10 * (ROOM + 1) + 1536, 0.0),
+            floats: Tail::new(floats_of(ROOM + 1), 0.0),
             counts: Tail::new(ROOM + 129, 0),
             sizes: Tail::new(ROOM + 2, 0),
             told: Tail::new(3, 0),
@@ -55,7 +60,7 @@ impl Splitter {
     /// The call with its list at the front of the slices, `short` of which are a value too short.
     pub fn call(&mut self, planes: &[f64], list: &Given, short: [usize; 4]) -> u64 {
         let [linear, local] = list.tolerances;
-        let floats = 10 * list.room + 1536 - short[0];
+        let floats = floats_of(list.room) - short[0];
         let counts = list.room + 128 - short[1];
         let sizes = list.room + 1 - short[2];
         let told = 3 - short[3];
@@ -90,7 +95,7 @@ impl Splitter {
     /// The parts; a refusal tells nothing, and where no list was given it leaves everything as it was.
     pub fn split(&mut self, planes: &[f64], list: &Given) -> Told<Parts> {
         let number = self.call(planes, list, [0; 4]);
-        let floats = self.floats.slice(10 * list.room + 1536);
+        let floats = self.floats.slice(floats_of(list.room));
         let counts = self.counts.slice(list.room + 128);
         let sizes = self.sizes.slice(list.room + 1);
         let told = self.told.slice(3);
@@ -107,7 +112,7 @@ impl Splitter {
         let [cells, faces, corners] = [0, 1, 2].map(|i| told[i] as usize);
         Told {
             answer: Ok((
-                floats[..12 * faces + 3 * corners].to_vec(),
+                floats[..PLANE * faces + 3 * corners].to_vec(),
                 counts[..faces].to_vec(),
                 sizes[..cells].to_vec(),
             )),

@@ -19,7 +19,7 @@ loop-holds c = facets-start _ _ _ _ _ _ _ (c .before .before .before .pre .1)
 abbrev size : tie.In-loop Inv-loop μ-loop → ℕ
 size c = let A = c .before .before .before .before .before .args in getD (A .sizes .now) (A .j + c .before .loop .i) 0
 
-fits : (c : tie.In-loop Inv-loop μ-loop) → (c .before .loop .o + 12 + 3 * size c ≤ length (c .before .before .before .before .before .args .s .now)) × (c .before .loop .p + 100 + 24 * size c ≤ length (c .before .loop .out))
+fits : (c : tie.In-loop Inv-loop μ-loop) → (c .before .loop .o + 13 + 3 * size c ≤ length (c .before .before .before .before .before .args .s .now)) × (c .before .loop .p + 100 + 24 * size c ≤ length (c .before .loop .out))
 fits c =
     let S = c .before .before .before .before .before in
     let L = c .before .loop in

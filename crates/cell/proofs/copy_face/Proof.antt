@@ -16,7 +16,7 @@ returns-2 : tie.Need-returns-2
 returns-2 c =
     let S = c .before .before .before .before .before .before .before .before in
     turned-full _ _ _ _ _ _ _ _ (S .pre .0 .few) (S .pre .0 .fit) (c .before .before .before .enum-told .given .1)
-    (counted _ _ _ _ _ _ _ (sym (length-pointsAt (S .args .src .now) (S .args .o + 12) (S .args .n))) (c .before .before .is-full .ensures) (c .before .if1 .taken)) (c .refuse .ensures)
+    (counted _ _ _ _ _ _ _ (sym (length-pointsAt (S .args .src .now) (S .args .o + 13) (S .args .n))) (c .before .before .is-full .ensures) (c .before .if1 .taken)) (c .refuse .ensures)
 
 -- there is room for the face
 space : (c : tie.Else1) → let A = c .before .before .before .before .before .before .before .args in (A .s .faces < 128) × (A .s .corners + A .n ≤ A .limit)
@@ -33,7 +33,7 @@ returns-3 c =
     let P = c .before .before .before .before in
     let F = P .before .before .before .before in
     let S = F .before .before .before .before .before .before in
-    turned-added _ _ _ _ _ _ _ _ _ _ _ (S .pre .1 .0) (sym (length-pointsAt (S .args .src .now) (S .args .o + 12) (S .args .n))) (F .before .enum-told .given .1) (F .is-full .ensures) (P .before .before .before .if1 .left)
+    turned-added _ _ _ _ _ _ _ _ _ _ _ (S .pre .1 .0) (sym (length-pointsAt (S .args .src .now) (S .args .o + 13) (S .args .n))) (F .before .enum-told .given .1) (F .is-full .ensures) (P .before .before .before .if1 .left)
     (P .copy-face .ensures .0) (P .copy-face .ensures .1)
 
 pub copy-face-spec : {M : Type 1} → statement M

@@ -22,7 +22,7 @@ size c = let A = c .before .before .before .before .before .before .args in getD
 small : (c : tie.In-loop Inv-loop μ-loop) → size c ≤ 128
 small c = ahead-small _ _ _ _ _ _ (c .before .before .before .before .before .before .pre .listed) (c .loop-test .taken) (c .before .loop .inv .ahead)
 
-inside : (c : tie.In-loop Inv-loop μ-loop) → c .before .loop .o + 12 + 3 * size c ≤ length (c .before .before .before .before .before .before .args .src .now)
+inside : (c : tie.In-loop Inv-loop μ-loop) → c .before .loop .o + 13 + 3 * size c ≤ length (c .before .before .before .before .before .before .args .src .now)
 inside c = ahead-inside _ _ _ _ _ _ (c .before .before .before .before .before .before .pre .listed) (c .loop-test .taken) (c .before .loop .inv .ahead)
 
 add-n : tie.Need-add-n Inv-loop μ-loop

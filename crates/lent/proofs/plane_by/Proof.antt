@@ -9,11 +9,11 @@ flat-requires c κs = search needs
 returns : tie.Need-returns
 returns c = search (needs, plane-none)
 
-get-plane-requires : tie.Need-get-plane-requires
-get-plane-requires c κs = search needs
+get-frame-requires : tie.Need-get-frame-requires
+get-frame-requires c κs = search needs
 
 returns-2 : tie.Need-returns-2
 returns-2 c = search (needs, plane-read)
 
 pub plane-by-spec : {M : Type 1} → statement M
-plane-by-spec = tie.close (tie.spec flat-requires returns get-plane-requires returns-2)
+plane-by-spec = tie.close (tie.spec flat-requires returns get-frame-requires returns-2)

@@ -3,8 +3,8 @@ use borrow.Author.Needs.{needs}
 use Rattle.lent.proofs.put_plane.Statement.{statement}
 use Rattle.lent.proofs.put_plane.Tie as tie
 
-put-plane-requires : tie.Need-put-plane-requires
-put-plane-requires c κs = search needs
+put-frame-requires : tie.Need-put-frame-requires
+put-frame-requires c κs = search needs
 
 same-length : tie.Need-same-length
 same-length c = search needs
@@ -16,4 +16,4 @@ returns-2 : tie.Need-returns-2
 returns-2 c = search (needs, plane-short)
 
 pub put-plane-spec : {M : Type 1} → statement M
-put-plane-spec = tie.close (tie.spec put-plane-requires same-length returns returns-2)
+put-plane-spec = tie.close (tie.spec put-frame-requires same-length returns returns-2)

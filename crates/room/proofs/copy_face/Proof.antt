@@ -14,8 +14,8 @@ returns c =
     let P = C .before .before .before .before in
     let G = P .before .before in
     let A = G .before .before .before .before .args in
-    let points = floatsOf (pointsAt (A .src .now) (A .from + 12) (A .m)) in (
-      C .copy-points .ensures ∙ ap (λ l. sets l (A .at + 12) points) (P .put-plane .ensures ∙ ap (λ w. sets (A .s .now) (A .at) (planeFloats w)) (G .get-plane .ensures))
+    let points = floatsOf (pointsAt (A .src .now) (A .from + 13) (A .m)) in (
+      C .copy-points .ensures ∙ ap (λ l. sets l (A .at + 13) points) (P .put-plane .ensures ∙ ap (λ w. sets (A .s .now) (A .at) (planeFloats w)) (G .get-plane .ensures))
           ∙ sets-append (A .s .now) (A .at) (planeFloats (planeAt (A .src .now) (A .from))) points,
       refl,
     )

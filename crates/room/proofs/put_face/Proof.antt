@@ -35,7 +35,7 @@ returns c =
     let C2 = c .before .before in
     let C1 = C2 .before .before .before .before in
     let A = C1 .before .before .before .before .args in (
-      C2 .put-points .ensures ∙ ap (λ l. sets l (A .at + 12) (floatsOf (cornersOf (A .p)))) (C1 .put-plane .ensures)
+      C2 .put-points .ensures ∙ ap (λ l. sets l (A .at + 13) (floatsOf (cornersOf (A .p)))) (C1 .put-plane .ensures)
           ∙ sets-append (A .s .now) (A .at) (planeFloats (A .w)) (floatsOf (cornersOf (A .p))),
       refl,
     )

@@ -1,59 +1,31 @@
-use mathlib.Core.Path.{_≡_, refl, sym, ap, _∙_}
+use mathlib.Core.Path.{ap, _∙_}
 use Prim.Native.Nat.{_+_}
-use lib.Seq.{sets}
-use Rattle.polygon.specs.Memory.{floats}
+use lib.ListN.{set}
 use Rattle.room.specs.Laws.{sets-plane}
 use borrow.Author.Needs.{needs}
 use Rattle.room.proofs.put_plane.Statement.{statement}
 use Rattle.room.proofs.put_plane.Tie as tie
 
-put-point-requires : tie.Need-put-point-requires
-put-point-requires c κs = search needs
+put-frame-requires : tie.Need-put-frame-requires
+put-frame-requires c κs = search needs
 
-add-put-point : tie.Need-add-put-point
-add-put-point c = search needs
+add-s : tie.Need-add-s
+add-s c = search needs
 
-put-point-requires-2 : tie.Need-put-point-requires-2
-put-point-requires-2 c κs = search needs
+mul-s : tie.Need-mul-s
+mul-s c = search needs
 
-add-put-point-2 : tie.Need-add-put-point-2
-add-put-point-2 c = search needs
-
-put-point-requires-3 : tie.Need-put-point-requires-3
-put-point-requires-3 c κs = search needs
-
-add-put-point-3 : tie.Need-add-put-point-3
-add-put-point-3 c = search needs
-
-put-point-requires-4 : tie.Need-put-point-requires-4
-put-point-requires-4 c κs = search needs
+slice-write-s : tie.Need-slice-write-s
+slice-write-s c = search needs
 
 same-length : tie.Need-same-length
 same-length c = search needs
 
 returns : tie.Need-returns
 returns c =
-    let C4 = c .before .before in
-    let C3 = C4 .before .before .before .before in
-    let C2 = C3 .before .before .before .before in
-    let C1 = C2 .before .before .before .before in
-    let A = C1 .before .before .before .before .before .before .before .before .args in
-    let f = A .w .frame in
-    C4 .put-point4 .ensures ∙ ap (λ l. sets l (A .at + 9) (floats (f .z))) (C3 .put-point3 .ensures
-    ∙ ap (λ l. sets l (A .at + 6) (floats (f .y))) (C2 .put-point2 .ensures
-    ∙ ap (λ l. sets l (A .at + 3) (floats (f .x))) (C1 .put-point .ensures)))
-    ∙ sets-plane (A .s .now) (A .at) (f .origin) (f .x) (f .y) (f .z)
+    let P = c .before .before in
+    let A = P .before .before .before .args in
+    ap (λ l. set l (A .at + 12) (A .w .mark)) (P .put-frame .ensures) ∙ sets-plane (A .s .now) (A .at) (A .w)
 
 pub put-plane-spec : {M : Type 1} → statement M
-put-plane-spec =
-    tie.close
-    (tie.spec
-    put-point-requires
-    add-put-point
-    put-point-requires-2
-    add-put-point-2
-    put-point-requires-3
-    add-put-point-3
-    put-point-requires-4
-    same-length
-    returns)
+put-plane-spec = tie.close (tie.spec put-frame-requires add-s mul-s slice-write-s same-length returns)

@@ -5,4 +5,4 @@ use Rattle.shift.proofs.moved_plane.Tie as tie
 
 pub moved-plane-spec : {M : Type 1} → statement M
 unfolding movedPlane
-moved-plane-spec = tie.close (tie.spec (λ c κs. search needs) (λ c κs. search needs) (λ c κs. search needs) (λ c. cc))
+moved-plane-spec = tie.close (tie.spec (λ c κs. search needs) (λ c κs. search needs) (λ c κs. search needs) (λ c κs. search needs) (λ c. cc))

@@ -5,4 +5,4 @@ use Rattle.side.proofs.opposite.Tie as tie
 
 pub opposite-spec : {M : Type 1} → statement M
 unfolding oppositeOf
-opposite-spec = tie.close (tie.spec (λ c κs. search needs) (λ c κs. search needs) (λ c. cc))
+opposite-spec = tie.close (tie.spec (λ c κs. search needs) (λ c κs. search needs) (λ c κs. search needs) (λ c. cc))
