@@ -1,19 +1,19 @@
 //! The solid check, step by step.
 use crate::found::{agreed, apart, decimal, in_local, off_plane, place, refuse, require, Walk};
-use oracle::{leaf, Cell, Plane, Point, Sign, Solid, Tolerances};
+use oracle::{leaf, Cell, Interval, Plane, Point, Sign, Solid, Tolerances};
 use std::collections::BTreeMap;
 
 /// The greatest size of a coordinate, 2^20.
 const MOST: f64 = 1_048_576.0;
 
-/// The cell of a solid that passes; `counts` for one that was given.
-pub fn check(t: &Tolerances, solid: &Solid, counts: bool) -> Walk<Cell> {
-    leaf::check(t, solid, counts).map_err(|number| agreed(number, steps(t, solid, counts)))
+/// The cell of a solid that passes; counts and turns are looked at where it was given.
+pub fn check(t: &Tolerances, solid: &Solid, given: bool) -> Walk<Cell> {
+    leaf::check(t, solid, given).map_err(|number| agreed(number, steps(t, solid, given)))
 }
 
-fn steps(t: &Tolerances, solid: &Solid, counts: bool) -> Walk<()> {
+fn steps(t: &Tolerances, solid: &Solid, given: bool) -> Walk<()> {
     numbers(solid)?;
-    if counts {
+    if given {
         counted(solid)?;
     }
     indices(solid)?;
@@ -23,7 +23,7 @@ fn steps(t: &Tolerances, solid: &Solid, counts: bool) -> Walk<()> {
     }
     pairs(t, &solid.points)?;
     for i in 0..solid.faces.len() {
-        sides(t, solid, i).map_err(|f| f.at(format!("face {i}")))?;
+        against(t, solid, i, given).map_err(|f| f.at(format!("face {i}")))?;
     }
     Ok(())
 }
@@ -170,16 +170,51 @@ fn pairs(t: &Tolerances, points: &[Point]) -> Walk<()> {
     Ok(())
 }
 
-fn sides(t: &Tolerances, solid: &Solid, i: usize) -> Walk<()> {
+/// All points against the plane of a face, then its own turns where it was given.
+fn against(t: &Tolerances, solid: &Solid, i: usize, given: bool) -> Walk<()> {
     let face = &solid.faces[i];
     let corners = [0, 1, 2].map(|k| solid.points[face[k]]);
     let plane = match leaf::face_plane(t, &corners) {
         Err(number) => return refuse(number, "its frame"),
         Ok(plane) => plane,
     };
+    sides(t, solid, face, &plane)?;
+    match given {
+        true => turns(t, solid, face, &plane),
+        false => Ok(()),
+    }
+}
+
+/// Each three consecutive corners of a face, round it, in the coordinates of its plane.
+fn turns(t: &Tolerances, solid: &Solid, face: &[usize], plane: &Plane) -> Walk<()> {
+    let flat = |v: &usize| {
+        let part = |k: usize| [plane[k], plane[k + 1], plane[k + 2]];
+        let d = minus(&solid.points[*v], &part(0));
+        let [x, y] = [3, 6].map(|k| Interval::point(dot(&d, &part(k))));
+        leaf::Projected { x, y }
+    };
+    let flats: Vec<_> = face.iter().map(flat).collect();
+    for k in 0..face.len() {
+        let [a, b, c] = [k, k + 1, k + 2].map(|k| k % face.len());
+        let turn = leaf::orientation(t, &flats[a], &flats[b], &flats[c]);
+        let (u, v, w) = (face[a], face[b], face[c]);
+        let words = || match turn {
+            Ok(_) => format!("it turns right from point {u} by {v} to {w}"),
+            Err(_) => format!("how it turns from point {u} by {v} to {w} is not certain"),
+        };
+        require(
+            matches!(turn, Ok(sign) if sign != Sign::Negative),
+            turn.err().unwrap_or(4),
+            words,
+        )?;
+    }
+    Ok(())
+}
+
+fn sides(t: &Tolerances, solid: &Solid, face: &[usize], plane: &Plane) -> Walk<()> {
     let mut inside = 0;
     for (k, q) in solid.points.iter().enumerate() {
-        let sign = side(t, &plane, q, face.contains(&k));
+        let sign = side(t, plane, q, face.contains(&k));
         let sign = sign.map_err(|f| f.at(format!("point {k} {}", place(q))))?;
         inside += usize::from(sign == Sign::Negative);
     }
