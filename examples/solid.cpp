@@ -16,8 +16,6 @@ namespace {
 using Bytes = std::vector<std::uint8_t>;
 using Span = std::span<const std::uint8_t>;
 
-const char *const version = "solid 0.1.0, of Rumosaywe";
-
 const char *const help =
     R"(usage: solid fuse JOB | cells JOB | offset CELL DISTANCE | hollow CELL THICKNESS | mesh FACET | check FILE
              [--room N] [--obj FILE] [--vtk FILE] [--volumes]
@@ -404,7 +402,10 @@ int main(int count, char **words)
 {
     const std::vector<std::string> all(words + std::min(count, 1), words + count);
     if (all.size() == 1 && one_of(all[0], {"--help", "-h", "--version"})) {
-        std::printf("%s%s", all[0] == "--version" ? version : help, all[0] == "--version" ? "\n" : "");
+        if (all[0] == "--version")
+            std::printf("solid %d.%d.%d, of Rumosaywe\n", SOLID_VERSION / 10000, SOLID_VERSION / 100 % 100, SOLID_VERSION % 100);
+        else
+            std::printf("%s", help);
         return ended(0);
     }
     try {
