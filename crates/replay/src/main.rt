@@ -1,12 +1,17 @@
 // Replays a fixed list of the oracle's answers, which standard input holds, and says how many differ.
 // A record is 20 words of 8 bytes, the lowest byte first: the kind of question, 17 numbers, and 2 words of the answer.
+#![tactic(auto)]
+
 ghost use Rattle.std.specs.Prelude.{◌≤◌};
+ghost use Rattle.std.specs.Io.{ReadsAtMost};
 
 use interval::{Interval, Inverse, Sign};
 use space::{Closeness, Frame, Plane, Point3, Precision};
+use std::io;
+use std::io::Read;
 use turns::Projected;
 
-#[derive(Drop)]
+#[derive(Clone, Copy)]
 struct Answer {
     first: u64,
     second: u64,
@@ -234,13 +239,25 @@ fn wrong_in(list: &[u8], n: usize) -> u64 {
     sum
 }
 
-fn main() {
-    let mut list = io::large_buffer();
-    let n = io::read_full(0, &mut list);
+// Reads until the list is full or the input ends; returns how many bytes stand at the front of the list.
+fn read_full(from: &mut impl Read, list: &mut [u8]) -> io::Result<usize>
+    ensures { ReadsAtMost result list.new }
+{
+    let mut done = 0;
+    while done < list.len() {
+        let n = from.read(&mut list[done..])?;
+        if n == 0 {
+            break;
+        }
+        done += n;
+    }
+    Ok(done)
+}
+
+fn main(rt: HostRuntime) -> io::Result<()> {
+    let mut list = [0u8; 65536];
+    let n = read_full(&mut rt.stdin(), &mut list)?;
+    let asked = n / 160;
     let differ = wrong_in(&list, n);
-    io::write_all(1, b"replay: ");
-    io::print_decimal(1, (n / 160) as u64);
-    io::write_all(1, b" asked, ");
-    io::print_decimal(1, differ);
-    io::write_all(1, b" differ\n");
+    println!(rt; "replay: {asked} asked, {differ} differ")
 }

@@ -3,7 +3,6 @@ use Rattle.std.specs.Prelude.{◌≡◌, refl, Bool, true, List, [], ℕ, ◌*�
 use Rattle.std.proofs.Common.{sym, ap, ◌∙◌, append-nil, arith, length-take-le, take_at}
 use Rattle.std.proofs.lemmas.List.Edits.{sets, sets-eq}
 use Rattle.std.proofs.Math.Seq.{length-sets}
-use Rattle.io.specs.Counts.{IsPrefixLen}
 use Rattle.refusal.specs.Outcome.{Outcome, ok, refused}
 use Rattle.space.specs.Shapes.{Face}
 use Rattle.lent.specs.Lent.{number_by}
@@ -16,6 +15,10 @@ use Rattle.fuse_lent.specs.Lent.{lends}
 use Rattle.fuse_lent.specs.Laws.{lends_all}
 use Rattle.fuse_served.specs.Entry.{fuse_entry}
 use Rattle.solidjob.specs.Short.{entry_short}
+
+-- the n first elements of a list are there
+abbrev pub IsPrefixLen : ℕ → List ℕ → Type 0
+IsPrefixLen n xs = (n ≤ length xs) × (n ≡ length (take n xs))
 
 -- "A refusal prints the first line alone, with its number"
 unfoldable pub printed : Outcome (List ℕ) → List ℕ

@@ -1,10 +1,14 @@
 // The program: a job from standard input, fused in a room of 720 corners, and what document 01 has it print.
+#![tactic(auto)]
+
 ghost use Rattle.std.specs.Prelude.{◌≡◌, ◌≤◌, length};
+ghost use Rattle.std.specs.Io.{ReadsAtMost};
 ghost use Rattle.std.proofs.lemmas.List.Edits.{sets};
-ghost use Rattle.io.specs.Counts.{IsPrefixLen};
-ghost use Rattle.solidjob.specs.Report.{report, Done};
+ghost use Rattle.solidjob.specs.Report.{IsPrefixLen, report, Done};
 
 use ended::Ended;
+use std::io;
+use std::io::{Read, Write};
 
 // A job fused in a room of the call's own. The bytes of the answer stand at the front of its memory, none for a refusal.
 fn fuse_job(job: &[u8], answer: &mut [u8]) -> Ended
@@ -78,11 +82,26 @@ fn put_report(job: &[u8], text: &mut [u8]) -> usize
     lines::put_lines(lent::number_by(v), &answer[..n], text)
 }
 
+// Reads until the list is full or the input ends; returns how many bytes stand at the front of the list.
+fn read_full(from: &mut impl Read, list: &mut [u8]) -> io::Result<usize>
+    ensures { ReadsAtMost result list.new }
+{
+    let mut done = 0;
+    while done < list.len() {
+        let n = from.read(&mut list[done..])?;
+        if n == 0 {
+            break;
+        }
+        done += n;
+    }
+    Ok(done)
+}
+
 // A byte more than a job can have is read, so that a longer one is refused.
-fn main() {
+fn main(rt: HostRuntime) -> io::Result<()> {
     let mut job = [0u8; 32769];
-    let n = io::read_full(0, &mut job);
+    let n = read_full(&mut rt.stdin(), &mut job)?;
     let mut text = page();
     let m = put_report(&job[..n], &mut text);
-    io::write_all(1, &text[..m]);
+    rt.stdout().write_all(&text[..m])
 }
