@@ -1,3 +1,5 @@
+#![tactic(auto)]
+
 // Answers written into bytes out of lent slices; each function takes the place where it begins.
 ghost use Rattle.std.specs.Prelude.{◌≡◌, ◌+◌, ◌*◌, ◌≤◌, ◌<◌, length, set};
 ghost use Rattle.std.proofs.lemmas.List.Edits.{sets};

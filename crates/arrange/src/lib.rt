@@ -1,3 +1,5 @@
+#![tactic(auto)]
+
 // The facets of an arrangement after `conform`, against the room.
 ghost use Rattle.std.specs.Prelude.{◌≡◌, ◌+◌, ◌≤◌};
 ghost use Rattle.refusal.specs.Outcome.{then};

@@ -1,3 +1,5 @@
+#![tactic(auto)]
+
 // The arrangement of a list of cells as fusing takes it: its points, its facets' cycles one behind another, where each begins, and
 // the cell of each. Everything else that is lent is work memory, and all of it after a refusal.
 ghost use Rattle.std.specs.Prelude.{◌≡◌, ◌+◌, ◌*◌, ◌≤◌, ◌<◌, length, take};
@@ -15,7 +17,7 @@ use space::Precision;
 use stack::Stack;
 
 // How many points, facets and vertices of facets there are; a refusal has none.
-#[derive(Drop)]
+#[derive(Clone, Copy)]
 pub struct Layout {
     pub verdict: Verdict,
     pub points: usize,

@@ -1,3 +1,5 @@
+#![tactic(auto)]
+
 // The bodies of groups of cells, one behind another, in three slices: all facets in order, how many facets each shell has, how many
 // shells each body has.
 ghost use Rattle.std.specs.Prelude.{◌≡◌, [], ℕ, ◌+◌, ◌<◌, ◌≤◌, length, get_or};
@@ -16,7 +18,7 @@ use fusing::Made;
 use refusal::{Refusal, Verdict};
 
 // A verdict, and how many bodies, shells and facets are written.
-#[derive(Drop)]
+#[derive(Clone, Copy)]
 pub struct Fused {
     pub verdict: Verdict,
     pub bodies: usize,

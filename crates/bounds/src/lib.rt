@@ -1,3 +1,5 @@
+#![tactic(auto)]
+
 // The corners of a cell against the planes of another.
 ghost use Rattle.std.specs.Prelude.{◌≡◌, ◌+◌, ◌*◌, ◌≤◌, length};
 ghost use Rattle.polygon.specs.Memory.{points_at};

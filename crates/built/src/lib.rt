@@ -1,3 +1,5 @@
+#![tactic(auto)]
+
 // The solid of a cell, as an answer has it: the points and faces of `indexed`, where they pass the check without the counts.
 ghost use Rattle.std.specs.Prelude.{◌≡◌, length};
 ghost use Rattle.refusal.specs.Outcome.{heard};

@@ -1,3 +1,5 @@
+#![tactic(auto)]
+
 // The remainder of a cell, cut by plane after plane, and the pieces that fall off. The remainder lives in a room of its own,
 // `rest` with `held`; a cut of it is made in a second room, `spare` with `slots`, and copied back. The pieces lie in `dst`,
 // `counts` and `sizes`.
@@ -14,7 +16,7 @@ use space::{Plane, Planed, Precision};
 use stack::Stack;
 
 // What is left of the first cell: whether there is any, and how many faces it has.
-#[derive(Drop)]
+#[derive(Clone, Copy)]
 pub struct Rest {
     pub verdict: Verdict,
     pub some: bool,
@@ -22,7 +24,7 @@ pub struct Rest {
 }
 
 // The remainder, and the pieces outside so far.
-#[derive(Drop)]
+#[derive(Clone, Copy)]
 pub struct Carved {
     pub rest: Rest,
     pub list: Stack,

@@ -1,3 +1,5 @@
+#![tactic(auto)]
+
 // The shells of a body in order: exactly one is outward and comes first, the inward ones follow as found. Shell k is
 // d[c[k]..c[k + 1]], a list of facets.
 ghost use Rattle.std.specs.Prelude.{◌≡◌, ℕ, ◌+◌, ◌<◌, ◌≤◌, length};
@@ -12,7 +14,7 @@ use refusal::{Refusal, Verdict};
 use volume::Sensed;
 
 // The search for the outward shell: where it is, and which one it is, if it was met.
-#[derive(Drop)]
+#[derive(Clone, Copy)]
 pub struct Found {
     pub verdict: Verdict,
     pub at: usize,

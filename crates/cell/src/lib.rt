@@ -1,3 +1,5 @@
+#![tactic(auto)]
+
 // A cell that grows face by face in a room, behind what two lent slices hold already: the floats of its faces from `at` on,
 // their numbers of corners from `k` on. A refusal writes nothing more; what was added before it stays behind the places.
 ghost use Rattle.std.specs.Prelude.{◌≡◌, ◌+◌, ◌*◌, ◌≤◌, ◌<◌, length, ltb};
@@ -10,7 +12,7 @@ use refusal::Verdict;
 use space::Plane;
 
 // How many faces and corners the cell has.
-#[derive(Drop)]
+#[derive(Clone, Copy)]
 pub struct Kept {
     pub verdict: Verdict,
     pub faces: usize,

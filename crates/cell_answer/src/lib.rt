@@ -1,3 +1,5 @@
+#![tactic(auto)]
+
 // The bytes of the solids of a list of cells, one after another.
 ghost use Rattle.std.specs.Prelude.{◌≡◌, ◌*◌, ◌≤◌, length};
 ghost use Rattle.refusal.specs.Outcome.{then};

@@ -1,3 +1,5 @@
+#![tactic(auto)]
+
 // Boolean operations of two convex cells as lists of convex cells. The remainder of the first cell lives in a room of its own,
 // `rest` with `held`; `spare` with `slots` is a second room for its cuts. The list lies in `dst`, `counts` and `sizes`. All of
 // these are work memory but for the list that an answer tells; the memory of a cut is made once for each walk over the planes.

@@ -1,3 +1,5 @@
+#![tactic(auto)]
+
 // The cell Boolean of a job, once the lengths of the slices are tested: the bytes read whole, the room and the tolerances, the solids, the
 // cells, and the bytes of the answer. All slices but the answer are work memory; those that the cut needs no more serve the check.
 ghost use Rattle.std.specs.Prelude.{◌≡◌, ◌≤◌, length};

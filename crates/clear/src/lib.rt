@@ -1,3 +1,5 @@
+#![tactic(auto)]
+
 // Work memory zeroed, several slices at a time.
 ghost use Rattle.std.specs.Prelude.{◌≡◌, length, replicate};
 ghost use Rattle.clear.specs.Clear.{zeros, zero_floats};

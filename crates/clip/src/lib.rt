@@ -1,3 +1,5 @@
+#![tactic(auto)]
+
 // The part of a convex cell below a plane.
 ghost use Rattle.std.specs.Prelude.{◌≡◌, ◌+◌, ◌*◌, ◌≤◌, length};
 ghost use Rattle.edge.specs.Meets.{seen};
@@ -12,7 +14,7 @@ use refusal::{Refusal, Verdict};
 use space::{Plane, Precision};
 
 // A cut under way: how many faces and corners the cell has, and how many points the cap.
-#[derive(Drop)]
+#[derive(Clone, Copy)]
 pub struct Going {
     pub verdict: Verdict,
     pub faces: usize,
@@ -21,7 +23,7 @@ pub struct Going {
 }
 
 // Part has the numbers of its faces and corners.
-#[derive(Drop)]
+#[derive(Clone, Copy)]
 pub enum Clipped {
     Nothing,
     Part(usize, usize),

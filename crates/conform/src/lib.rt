@@ -1,3 +1,5 @@
+#![tactic(auto)]
+
 // `conform`: a facet's cycle of vertices, with the vertices of the arrangement inside each of its edges.
 ghost use Rattle.std.specs.Prelude.{◌≡◌, ◌+◌, ◌*◌, ◌≤◌, ◌<◌, length, set, take};
 ghost use Rattle.std.proofs.lemmas.List.Edits.{sets};

@@ -1,3 +1,5 @@
+#![tactic(auto)]
+
 // `unique`, `hull` and `clip` for the tests that call them from outside. 64 says that a slice was too short for the call, which
 // then leaves everything as it was.
 ghost use Rattle.std.specs.Prelude.{◌≡◌, ◌+◌, ◌*◌, ◌≤◌, length, set, leb};

@@ -1,3 +1,5 @@
+#![tactic(auto)]
+
 // The corners that are left of an outline, and the scan for an ear among them.
 ghost use Rattle.std.specs.Prelude.{◌≡◌, [], ◌+◌, ◌-◌, ◌%◌, ◌<◌, ◌≤◌};
 ghost use Rattle.outline.specs.Project.{points_of};
@@ -10,7 +12,7 @@ use space::Precision;
 use turns::{Projected, Turn};
 
 // The places of three corners.
-#[derive(Drop)]
+#[derive(Clone, Copy)]
 pub struct Triangle {
     pub a: usize,
     pub b: usize,
@@ -18,14 +20,14 @@ pub struct Triangle {
 }
 
 // The places of the corners that are left.
-#[derive(Drop)]
+#[derive(Clone, Copy)]
 pub struct Active {
     pub at: [usize; 128],
     pub n: usize,
 }
 
 // A corner in the way of an ear, or not.
-#[derive(Drop)]
+#[derive(Clone, Copy)]
 pub enum Block {
     Clear,
     Blocked,
@@ -33,7 +35,7 @@ pub enum Block {
 }
 
 // What a scan of the corners finds, and at which of them.
-#[derive(Drop)]
+#[derive(Clone, Copy)]
 pub enum Found {
     Ear(usize, Triangle),
     Straight(usize),

@@ -1,3 +1,5 @@
+#![tactic(auto)]
+
 // How a corner and an edge meet the plane of a cut.
 ghost use Rattle.std.specs.Prelude.{◌≡◌};
 ghost use Rattle.refusal.specs.Outcome.{ok, then};
@@ -9,7 +11,7 @@ use side::Side;
 use space::{Plane, Point3, Precision};
 
 // Keep and Touch are the corner itself, Touch one that stands on the cap too; Cut is a new corner on the plane.
-#[derive(Drop)]
+#[derive(Clone, Copy)]
 pub enum Meet {
     Keep,
     Drop,
@@ -19,7 +21,7 @@ pub enum Meet {
 }
 
 // Whether corners lie on the negative and on the positive side.
-#[derive(Drop)]
+#[derive(Clone, Copy)]
 pub struct Seen {
     pub verdict: Verdict,
     pub negative: bool,

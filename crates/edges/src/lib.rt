@@ -1,3 +1,5 @@
+#![tactic(auto)]
+
 // The edges of a body: each is run once each way, by two facets, which are neighbours. Run x lies in `d` from 3 * x on: the
 // facet's place in the body, where the edge begins, where it ends. Its key is row x of `k`, two numbers, with `s` as starts.
 ghost use Rattle.std.specs.Prelude.{◌≡◌, List, [], ◌∷◌, ◌++◌, map, ℕ, ◌+◌, ◌-◌, ◌*◌, ◌<◌, ◌≤◌, min, max, length, get_or, set};
@@ -16,7 +18,7 @@ ghost use Rattle.edges.specs.Whole.{Room};
 use refusal::{Refusal, Verdict};
 
 // The walk over the edges: where it is in their order, and how many pairs of facets are met so far.
-#[derive(Drop)]
+#[derive(Clone, Copy)]
 pub struct Paired {
     pub verdict: Verdict,
     pub at: usize,

@@ -1,10 +1,12 @@
+#![tactic(auto)]
+
 // How a call ends: a refusal, or an answer of so many bytes.
 ghost use Rattle.std.specs.Prelude.{◌≡◌, ◌<◌};
 ghost use Rattle.ended.specs.Ends.{stopped, answered, told_by};
 
 use refusal::{Refusal, Verdict};
 
-#[derive(Drop)]
+#[derive(Clone, Copy)]
 pub struct Ended {
     pub verdict: Verdict,
     pub bytes: usize,

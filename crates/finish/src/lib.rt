@@ -1,3 +1,5 @@
+#![tactic(auto)]
+
 // The solids of a list of cells, one after another. They lie in slices one behind another: the floats of the points in `points`, the
 // places of the faces' corners in `places`, the number of points of each solid in `marks`; the numbers of corners and of faces are the
 // list's own.

@@ -1,3 +1,5 @@
+#![tactic(auto)]
+
 // Fusing: the facets of an arrangement of cells become bodies. The vertices of facet i are v[starts[i]..starts[i + 1]], its cell is
 // owners[i]; point i lies in `points` from 3 * i on. The answer lies in three slices: all facets in order, how many facets each shell
 // has, how many shells each body has.

@@ -1,3 +1,5 @@
+#![tactic(auto)]
+
 // The fused bodies of a list of cells, for the tests that call fusing's steps from outside: loose faces reach refusals that whole jobs
 // hardly reach. 64 says that the slices hold no list of cells, or that the sizes or the answer are too short; the answer is then as it was.
 ghost use Rattle.std.specs.Prelude.{◌≡◌, ◌*◌, ◌≤◌, length};

@@ -1,3 +1,5 @@
+#![tactic(auto)]
+
 // What is lent to a call that fuses.
 ghost use Rattle.std.specs.Prelude.{◌≡◌};
 ghost use Rattle.fuse_lent.specs.Lent.{lends};

@@ -1,3 +1,5 @@
+#![tactic(auto)]
+
 // The bodies of a list of cells: its arrangement, laid out in slices, and the bodies of that.
 ghost use Rattle.std.specs.Prelude.{◌≡◌};
 ghost use Rattle.refusal.specs.declared.Verdict.TheVariants.{Fine};
@@ -13,7 +15,7 @@ use space::Precision;
 use stack::Stack;
 
 // An arrangement's numbers, and those of its bodies.
-#[derive(Drop)]
+#[derive(Clone, Copy)]
 pub struct Listing {
     pub layout: Layout,
     pub fused: Fused,

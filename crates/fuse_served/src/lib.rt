@@ -1,3 +1,5 @@
+#![tactic(auto)]
+
 // The call that fuses but for the clearing of its work memory: the test of what is lent, the job read, its solids in rooms, their pieces,
 // then the bytes of the bodies. All slices but the answer are work memory; those that the pieces need no more serve the fusing.
 ghost use Rattle.std.specs.Prelude.{◌≤◌, length};

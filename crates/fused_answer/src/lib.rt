@@ -1,3 +1,5 @@
+#![tactic(auto)]
+
 // The bytes of fused bodies. The plane of facet i stands in s at spots[i]; its corners are the points of its cycle
 // v[starts[i]..starts[i + 1]], point k from 3 * k on. Each function takes the place where it begins.
 ghost use Rattle.std.specs.Prelude.{◌≡◌, ℕ, ◌+◌, ◌*◌, ◌≤◌, ◌<◌, length, get_or, set};
@@ -11,7 +13,7 @@ ghost use Rattle.fused_answer.specs.Bodies.{total, bodies_at, Stacked};
 ghost use Rattle.fused_answer.specs.Spots.{spots_from};
 
 // The places behind what is written: in bytes, and of its facets.
-#[derive(Drop)]
+#[derive(Clone, Copy)]
 pub struct Written {
     pub at: usize,
     pub facets: usize,

@@ -1,3 +1,5 @@
+#![tactic(auto)]
+
 // The bytes of the bodies of a list of cells, out of the slices that `fuse_list` leaves.
 ghost use Rattle.std.specs.Prelude.{◌≡◌, ◌*◌, ◌≤◌, length};
 ghost use Rattle.refusal.specs.declared.Verdict.TheVariants.{Fine};

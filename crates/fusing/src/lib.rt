@@ -1,3 +1,5 @@
+#![tactic(auto)]
+
 // Fusing after `conform`: the facets of an arrangement of cells become bodies, shell by shell.
 ghost use Rattle.std.specs.Prelude.{◌≡◌, ℕ, ◌+◌, ◌*◌, ◌<◌, ◌≤◌, length};
 ghost use Rattle.keys.specs.Rows.{Starts};
@@ -15,7 +17,7 @@ ghost use Rattle.fusing.specs.Bench.{Cycles, Bench};
 use refusal::{Refusal, Verdict};
 
 // A body's verdict, and how many facets and shells are written behind it.
-#[derive(Drop)]
+#[derive(Clone, Copy)]
 pub struct Made {
     pub verdict: Verdict,
     pub facets: usize,
@@ -23,7 +25,7 @@ pub struct Made {
 }
 
 // The edges of a body: their verdict, and how many facets it has and pairs of neighbours.
-#[derive(Drop)]
+#[derive(Clone, Copy)]
 pub struct Bordered {
     pub verdict: Verdict,
     pub faces: usize,

@@ -1,3 +1,5 @@
+#![tactic(auto)]
+
 // `components` over lent slices. Pair p of `ends` joins the nodes ends[2 * p] and ends[2 * p + 1]; `all` is twice the number of pairs.
 // head[i] is the first place of `ends` that has node i, next[e] the next place that has the node at e; `all` stands for none.
 ghost use Rattle.std.specs.Prelude.{◌≡◌, ◌++◌, ℕ, ◌+◌, ◌-◌, ◌*◌, ◌/◌, ◌%◌, ◌<◌, ◌≤◌, length, get_or, replicate};

@@ -1,3 +1,5 @@
+#![tactic(auto)]
+
 // The parts of the hollow solid.
 ghost use Rattle.std.specs.Prelude.{◌≡◌, [], reverse, ◌+◌, ◌*◌, ◌≤◌, length};
 ghost use Rattle.std.proofs.lemmas.List.Edits.{sets};

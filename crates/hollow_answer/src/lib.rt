@@ -1,3 +1,5 @@
+#![tactic(auto)]
+
 // The answer of a hollow solid, from the checked cell in its slices to the bytes.
 ghost use Rattle.std.specs.Prelude.{◌≡◌, ◌+◌, ◌*◌, ◌≤◌, length};
 ghost use Rattle.refusal.specs.Outcome.{ok};

@@ -1,3 +1,5 @@
+#![tactic(auto)]
+
 // The points of a cell, each once, and its faces by their places among them; and so those of all cells of an arrangement.
 ghost use Rattle.std.specs.Prelude.{◌≡◌, ◌+◌, ◌*◌, ◌≤◌, ◌<◌, length};
 ghost use Rattle.refusal.specs.Outcome.{ok, unless};
@@ -10,13 +12,13 @@ use refusal::Refusal;
 use space::{Closeness, Point3, Precision};
 
 // Which near point is taken: the first, or the only one, where a second refuses.
-#[derive(Drop)]
+#[derive(Clone, Copy)]
 pub enum Pick {
     First,
     Only,
 }
 
-#[derive(Drop)]
+#[derive(Clone, Copy)]
 pub enum Counted {
     Made(usize),
     Refused(Refusal),

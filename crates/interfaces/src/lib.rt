@@ -1,3 +1,5 @@
+#![tactic(auto)]
+
 // Facets meet by equal sorted vertex lists: those of one cell alone are listed, those of two cells are interfaces.
 // The vertices of facet i are v[starts[i]..starts[i + 1]], its cell is owners[i]; `k` holds the keys with the same starts, `ord` their order.
 ghost use Rattle.std.specs.Prelude.{◌≡◌, List, [], ◌∷◌, ℕ, ◌+◌, ◌*◌, ◌<◌, ◌≤◌, length, get_or, set};
@@ -12,7 +14,7 @@ ghost use Rattle.interfaces.specs.Steps.{stop_if, after_two, Turned};
 use refusal::{Refusal, Verdict};
 
 // The walk over the keys: where it is in their order, and how many facets are listed and pairs of cells met so far.
-#[derive(Drop)]
+#[derive(Clone, Copy)]
 pub struct Met {
     pub verdict: Verdict,
     pub at: usize,

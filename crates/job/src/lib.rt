@@ -1,3 +1,5 @@
+#![tactic(auto)]
+
 // The reader of jobs: it says where the parts of a job stand in the bytes that were lent, and reads them there.
 // Each contract is one equation with a definition of `specs/`.
 ghost use Rattle.std.specs.Prelude.{◌≡◌, ◌+◌, ◌<◌, drop};
@@ -8,28 +10,28 @@ ghost use Rattle.job.specs.Read.{operated, laid, headed, precision_at, operation
 use refusal::Refusal;
 use space::{Frame, Plane, Point3, Precision};
 
-#[derive(Drop)]
+#[derive(Clone, Copy)]
 pub enum Operation {
     Intersection,
     Difference,
     Union,
 }
 
-#[derive(Drop)]
+#[derive(Clone, Copy)]
 pub enum Operated {
     Made(Operation),
     Refused(Refusal),
 }
 
 // How many faces stand one after the other, and how many corners they have together.
-#[derive(Drop)]
+#[derive(Clone, Copy)]
 pub struct Faces {
     pub faces: usize,
     pub corners: usize,
 }
 
 // Where a solid stands: its first point, its first face and the place after its end, and how many of each it has.
-#[derive(Drop)]
+#[derive(Clone, Copy)]
 pub struct Span {
     pub start: usize,
     pub points: usize,
@@ -39,13 +41,13 @@ pub struct Span {
     pub end: usize,
 }
 
-#[derive(Drop)]
+#[derive(Clone, Copy)]
 pub enum Spanned {
     Made(Span),
     Refused(Refusal),
 }
 
-#[derive(Drop)]
+#[derive(Clone, Copy)]
 pub struct Layout {
     pub precision: Precision,
     pub first: Span,
@@ -53,27 +55,27 @@ pub struct Layout {
     pub operation: Operation,
 }
 
-#[derive(Drop)]
+#[derive(Clone, Copy)]
 pub enum Laid {
     Made(Layout),
     Refused(Refusal),
 }
 
 // A solid alone, with its tolerances.
-#[derive(Drop)]
+#[derive(Clone, Copy)]
 pub struct CellLayout {
     pub precision: Precision,
     pub solid: Span,
 }
 
-#[derive(Drop)]
+#[derive(Clone, Copy)]
 pub enum CellLaid {
     Made(CellLayout),
     Refused(Refusal),
 }
 
 // A facet for the mesh: its plane, and where its corners stand.
-#[derive(Drop)]
+#[derive(Clone, Copy)]
 pub struct FacetLayout {
     pub precision: Precision,
     pub plane: Plane,
@@ -81,7 +83,7 @@ pub struct FacetLayout {
     pub points: usize,
 }
 
-#[derive(Drop)]
+#[derive(Clone, Copy)]
 pub enum FacetLaid {
     Made(FacetLayout),
     Refused(Refusal),

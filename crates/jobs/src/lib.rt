@@ -1,3 +1,5 @@
+#![tactic(auto)]
+
 // What every call begins with: the bytes read whole, the room, the tolerances, and then the solids, each in a room of its own.
 ghost use Rattle.std.specs.Prelude.{◌≡◌, ◌≤◌, length};
 ghost use Rattle.job.specs.Read.{laid, cell_laid};
@@ -9,7 +11,7 @@ use job::{CellLaid, CellLayout, Laid, Layout};
 use refusal::Verdict;
 
 // How many faces each of two cells has; none at a refusal.
-#[derive(Drop)]
+#[derive(Clone, Copy)]
 pub struct Pair {
     pub verdict: Verdict,
     pub first: usize,

@@ -1,3 +1,5 @@
+#![tactic(auto)]
+
 // The leaves for the tests that call them from outside: numbers in, numbers and codes out.
 ghost use Rattle.std.specs.Prelude.{◌≡◌};
 ghost use Rattle.std.specs.Float.{binary64};

@@ -1,3 +1,5 @@
+#![tactic(auto)]
+
 // Numbers, points and planes at the front of a lent slice, for calls from outside: one that is too short is read as zeros and
 // left alone.
 ghost use Rattle.std.specs.Prelude.{◌≡◌};

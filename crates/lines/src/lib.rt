@@ -1,3 +1,5 @@
+#![tactic(auto)]
+
 // What `solidjob` prints: lines of text out of a call's number and the bytes of its answer.
 ghost use Rattle.std.specs.Prelude.{◌≡◌, ◌+◌, ◌*◌, ◌%◌, ◌≤◌, ◌<◌, length, drop, get_or};
 ghost use Rattle.std.proofs.lemmas.List.Edits.{sets};
@@ -5,7 +7,7 @@ ghost use Rattle.lines.specs.Text.{decimal, answer_line, body_line, way, shell_l
 ghost use Rattle.lines.specs.Turns.{Turn};
 
 // Where the walk over the bytes stands: behind so many bodies, and so many shells of the last, which has others left.
-#[derive(Drop)]
+#[derive(Clone, Copy)]
 struct Spot {
     at: usize,
     body: u64,
@@ -13,7 +15,7 @@ struct Spot {
     left: u64,
 }
 
-#[derive(Drop)]
+#[derive(Clone, Copy)]
 struct Turned {
     spot: Spot,
     end: usize,

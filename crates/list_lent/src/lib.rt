@@ -1,3 +1,5 @@
+#![tactic(auto)]
+
 // A list of cells that is handed in from outside stands in three slices. They are tested before anything reads them: 64 says that
 // no list of cells stands there.
 ghost use Rattle.std.specs.Prelude.{◌≡◌, ◌≤◌, length, take};

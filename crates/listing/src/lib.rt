@@ -1,3 +1,5 @@
+#![tactic(auto)]
+
 // The shells of a body written out, the outward one first: their facets, and how many facets each has. Shell k is d[c[k]..c[k + 1]].
 ghost use Rattle.std.specs.Prelude.{◌≡◌, map, ℕ, ◌+◌, ◌-◌, ◌<◌, ◌≤◌, length, get_or};
 ghost use Rattle.std.proofs.Math.Seq.{slice};

@@ -1,1 +1,3 @@
+#![tactic(auto)]
+
 // Walks over lists and their laws; all of it stands in `specs/`.

@@ -1,3 +1,5 @@
+#![tactic(auto)]
+
 // Facets that meet: `same_cycle` over two rows of one slice.
 ghost use Rattle.std.specs.Prelude.{◌≡◌, ℕ, ◌+◌, ◌<◌, ◌≤◌, length};
 ghost use Rattle.std.proofs.Math.Seq.{slice};

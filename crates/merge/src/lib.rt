@@ -1,3 +1,5 @@
+#![tactic(auto)]
+
 // The vertices of an arrangement: every corner of every face of every cell is one of its points, or a new one behind them.
 // The faces lie one behind another; how many of them each cell has stands in a slice of its own.
 ghost use Rattle.std.specs.Prelude.{◌≡◌, ◌+◌, ◌≤◌, length, take, replicate, ltb};

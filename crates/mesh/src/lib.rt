@@ -1,3 +1,5 @@
+#![tactic(auto)]
+
 // The mesh of one facet: triples of corner places, each turning Positive.
 ghost use Rattle.std.specs.Prelude.{◌≡◌, true, [], ◌/◌, ◌<◌, ◌≤◌, length};
 ghost use Rattle.refusal.specs.Outcome.{refused};
@@ -14,13 +16,13 @@ use refusal::{Refusal, Verdict};
 use space::{Frame, Plane, Precision};
 use turns::Turn;
 
-#[derive(Drop)]
+#[derive(Clone, Copy)]
 pub struct Triples {
     pub at: [Triangle; 126],
     pub n: usize,
 }
 
-#[derive(Drop)]
+#[derive(Clone, Copy)]
 pub struct Meshed {
     pub verdict: Verdict,
     pub triples: Triples,

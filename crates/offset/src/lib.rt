@@ -1,3 +1,5 @@
+#![tactic(auto)]
+
 // The planes of a cell moved along their normals, and its corners with them.
 ghost use Rattle.std.specs.Prelude.{◌≡◌, true, [], map, ◌++◌, ◌+◌, ◌*◌, ◌≤◌, length, take, drop, replicate};
 ghost use Rattle.std.proofs.lemmas.List.Edits.{sets};

@@ -1,3 +1,5 @@
+#![tactic(auto)]
+
 // The answer of an offset, from the checked cell in its slices to the bytes.
 ghost use Rattle.std.specs.Prelude.{◌≡◌, ◌*◌, ◌≤◌, length};
 ghost use Rattle.room.specs.Rooms.{cell_at, counts_at};

@@ -1,3 +1,5 @@
+#![tactic(auto)]
+
 // The outline of a facet in the coordinates of its plane.
 ghost use Rattle.std.specs.Prelude.{◌≡◌, [], ◌+◌, ◌*◌, ◌/◌, ◌≤◌, length};
 ghost use Rattle.refusal.specs.Outcome.{refused, each};
@@ -9,19 +11,19 @@ use refusal::{Refusal, Verdict};
 use space::{Frame, Plane, Point3};
 use turns::Projected;
 
-#[derive(Drop)]
+#[derive(Clone, Copy)]
 pub struct Outline {
     pub at: [Projected; 128],
     pub n: usize,
 }
 
-#[derive(Drop)]
+#[derive(Clone, Copy)]
 pub enum Shadow {
     Made(Projected),
     Refused(Refusal),
 }
 
-#[derive(Drop)]
+#[derive(Clone, Copy)]
 pub struct Outlined {
     pub verdict: Verdict,
     pub outline: Outline,

@@ -1,3 +1,5 @@
+#![tactic(auto)]
+
 // A solid out of a job's bytes into lent slices, and records written into bytes.
 // Each contract is one equation with a definition of `specs/Flat.antt` for each slice.
 ghost use Rattle.std.specs.Prelude.{◌≡◌, map, ◌+◌, ◌*◌, ◌≤◌, ◌<◌, length, drop, set};

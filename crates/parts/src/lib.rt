@@ -1,3 +1,5 @@
+#![tactic(auto)]
+
 // The cells of each body: facets meet by equal keys, and cells connect through the facets that they share.
 ghost use Rattle.std.specs.Prelude.{◌≡◌, ℕ, ◌+◌, ◌<◌, ◌≤◌, length};
 ghost use Rattle.keys.specs.Rows.{Starts};
@@ -7,7 +9,7 @@ ghost use Rattle.parts.specs.Cells.{Places, Celled, Parting};
 use refusal::{Refusal, Verdict};
 
 // The facets' verdict, how many are of one cell alone, and how many bodies there are.
-#[derive(Drop)]
+#[derive(Clone, Copy)]
 pub struct Parted {
     pub verdict: Verdict,
     pub listed: usize,

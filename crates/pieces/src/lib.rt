@@ -1,3 +1,5 @@
+#![tactic(auto)]
+
 // The pieces of a Boolean operation of two cells: its cells, split by every plane of both. The first cell stands in `rest` and is
 // work memory once its planes are copied; so is everything else that is lent, but for the list that an answer tells.
 ghost use Rattle.std.specs.Prelude.{◌≡◌, ◌++◌, ◌+◌, ◌*◌, ◌≤◌, length};

@@ -1,3 +1,5 @@
+#![tactic(auto)]
+
 // A polygon is a record of up to 128 corners.
 ghost use Rattle.std.specs.Prelude.{◌≡◌, [], ◌+◌, ◌*◌, ◌≤◌, length};
 ghost use Rattle.std.proofs.lemmas.List.Edits.{sets};
@@ -12,14 +14,14 @@ ghost use Rattle.polygon.specs.Unique.{both, unique};
 use refusal::{Refusal, Verdict};
 use space::{Closeness, Point3, Precision};
 
-#[derive(Drop)]
+#[derive(Clone, Copy)]
 pub struct Polygon {
     pub at: [Point3; 128],
     pub n: usize,
 }
 
 // A polygon where the verdict is fine, else an empty one.
-#[derive(Drop)]
+#[derive(Clone, Copy)]
 pub struct Made {
     pub verdict: Verdict,
     pub polygon: Polygon,

@@ -1,3 +1,5 @@
+#![tactic(auto)]
+
 // One face of a cell against the plane of a cut: the sides of its corners, and the ring of corners that is left of it.
 // The ring and the points of the cap stand at the front of two lent slices, so that no polygon is copied for a corner;
 // what these slices hold further on is of no account.
@@ -12,7 +14,7 @@ use refusal::{Refusal, Verdict};
 use space::{Plane, Point3, Precision};
 
 // How many corners the ring has, and how many points the cap.
-#[derive(Drop)]
+#[derive(Clone, Copy)]
 pub struct Ringed {
     pub verdict: Verdict,
     pub corners: usize,

@@ -1,3 +1,5 @@
+#![tactic(auto)]
+
 // Faces in lent slices. A slice of floats holds, for each face, the 12 floats of its frame, its mark, and then 3 for each corner;
 // the faces' numbers of corners stand in a slice of their own.
 ghost use Rattle.std.specs.Prelude.{◌≡◌, ◌+◌, ◌*◌, ◌≤◌, ◌<◌, length, set, replicate};

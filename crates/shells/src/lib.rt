@@ -1,3 +1,5 @@
+#![tactic(auto)]
+
 // The facets of a body, and its shells: the facets that connect through edges inside the body.
 ghost use Rattle.std.specs.Prelude.{◌≡◌, List, ◌++◌, map, ℕ, ◌+◌, ◌*◌, ◌<◌, ◌≤◌, length, get_or, take, drop};
 ghost use Rattle.sums.specs.Sum.{occ};

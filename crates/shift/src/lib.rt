@@ -1,3 +1,5 @@
+#![tactic(auto)]
+
 // An offset at one vertex and of one plane.
 ghost use Rattle.std.specs.Prelude.{◌≡◌, cond, [], ◌<◌};
 ghost use Rattle.refusal.specs.Outcome.{ok, unless};
@@ -9,14 +11,14 @@ use refusal::Refusal;
 use space::{Plane, Planed, Point3, Precision};
 
 // A face that meets a vertex: its normal, and how far it is pushed.
-#[derive(Drop)]
+#[derive(Clone, Copy)]
 pub struct Push {
     pub normal: Point3,
     pub by: f64,
 }
 
 // The first three faces that meet a vertex, and how many there are.
-#[derive(Drop)]
+#[derive(Clone, Copy)]
 pub struct Meeting {
     pub a: Push,
     pub b: Push,
@@ -24,7 +26,7 @@ pub struct Meeting {
     pub n: usize,
 }
 
-#[derive(Drop)]
+#[derive(Clone, Copy)]
 pub enum Shifted {
     At(Point3),
     Refused(Refusal),

@@ -1,3 +1,5 @@
+#![tactic(auto)]
+
 // On which side of a plane a point lies.
 ghost use Rattle.std.specs.Prelude.{◌≡◌};
 ghost use Rattle.space.specs.Frames.{planed};
@@ -7,7 +9,7 @@ use interval::{Interval, Sign};
 use refusal::Refusal;
 use space::{Plane, Planed, Point3, Precision};
 
-#[derive(Drop)]
+#[derive(Clone, Copy)]
 pub enum Side {
     Positive,
     Negative,

@@ -1,3 +1,5 @@
+#![tactic(auto)]
+
 // Whether the edges of an outline keep apart.
 ghost use Rattle.std.specs.Prelude.{◌≡◌, ◌+◌, ◌%◌, ◌<◌, ◌≤◌};
 ghost use Rattle.outline.specs.Project.{points_of};

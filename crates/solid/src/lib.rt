@@ -1,3 +1,5 @@
+#![tactic(auto)]
+
 // The library as C and C++ call it (`include/solid.h`, which also sees to the floating-point environment that the machine code needs). No call
 // has a `requires`; what each hands back is determined (`specs/Only`).
 ghost use Rattle.std.specs.Prelude.{◌≡◌};

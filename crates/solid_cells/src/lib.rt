@@ -1,3 +1,5 @@
+#![tactic(auto)]
+
 // The call of the cell Boolean from outside.
 ghost use Rattle.std.specs.Prelude.{◌≡◌, ◌≤◌, length};
 ghost use Rattle.ended.specs.Ends.{ended_of, written};

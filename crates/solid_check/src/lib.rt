@@ -1,3 +1,5 @@
+#![tactic(auto)]
+
 // The check of a solid, and the checked solid as faces with planes.
 ghost use Rattle.std.specs.Prelude.{◌≡◌, true, false, map, ◌+◌, ◌*◌, ◌≤◌, ◌<◌, length};
 ghost use Rattle.std.proofs.lemmas.List.Edits.{sets};

@@ -1,3 +1,5 @@
+#![tactic(auto)]
+
 // The call that fuses, from outside. Its work memory is zeroed in two steps, since a function that lends much more than some 35 slices is
 // beyond the prover.
 ghost use Rattle.fuse_served.specs.Entry.{FuseEnded};

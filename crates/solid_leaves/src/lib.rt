@@ -1,3 +1,5 @@
+#![tactic(auto)]
+
 // The check of a cell's bytes, for tests that call it from outside.
 ghost use Rattle.std.specs.Prelude.{◌≡◌, ◌≤◌, length, eqb};
 ghost use Rattle.refusal.specs.Outcome.{ok, number_of};

@@ -1,3 +1,5 @@
+#![tactic(auto)]
+
 // The mesh of one facet as C++ calls it.
 ghost use Rattle.std.specs.Prelude.{◌≡◌, ◌+◌, ◌*◌, ◌≤◌, length};
 ghost use Rattle.std.proofs.lemmas.List.Edits.{sets};

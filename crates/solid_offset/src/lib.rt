@@ -1,3 +1,5 @@
+#![tactic(auto)]
+
 // The calls of an offset and of a hollow from outside.
 ghost use Rattle.std.specs.Prelude.{◌≡◌, ◌≤◌, length};
 ghost use Rattle.room.specs.Rooms.{cell_at, counts_at};

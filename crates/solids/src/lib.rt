@@ -1,3 +1,5 @@
+#![tactic(auto)]
+
 // The check of a solid's points and planes.
 ghost use Rattle.std.specs.Prelude.{◌≡◌, true, false, ◌+◌, ◌*◌, ◌≤◌, ◌<◌, length, drop};
 ghost use Rattle.refusal.specs.Outcome.{ok, unless, verdict_of};
@@ -83,7 +85,7 @@ pub fn is_corner(places: &[u64], at: usize, n: usize, x: usize) -> bool
 }
 
 // Whether a point was Negative so far, or why the face is refused.
-#[derive(Drop)]
+#[derive(Clone, Copy)]
 pub enum Below {
     Told(bool),
     Refused(Refusal),

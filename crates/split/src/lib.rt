@@ -1,3 +1,5 @@
+#![tactic(auto)]
+
 // One step of splitting a list of cells by a plane: both parts of one cell join the next list, within the budget of 512 cells.
 ghost use Rattle.std.specs.Prelude.{◌≡◌, ltb};
 ghost use Rattle.refusal.specs.Outcome.{then};

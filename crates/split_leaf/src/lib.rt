@@ -1,3 +1,5 @@
+#![tactic(auto)]
+
 // `split_cells` for the tests that call it from outside. 64 says that the slices hold no list of cells or are too short; everything
 // is then as it was.
 ghost use Rattle.std.specs.Prelude.{◌≡◌, [], ◌∷◌, ◌≤◌, length};

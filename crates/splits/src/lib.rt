@@ -1,3 +1,5 @@
+#![tactic(auto)]
+
 // `split_cells`: every cell of a list by every plane. A plane's parts go to a second list, which is then copied back. Both lists,
 // and the slices behind them, are work memory but for the list that an answer tells; the memory of a cut is the call's own.
 ghost use Rattle.std.specs.Prelude.{◌≡◌, ◌+◌, ◌*◌, ◌≤◌, length, take};

@@ -1,3 +1,5 @@
+#![tactic(auto)]
+
 // A list of cells in three lent slices: the floats of the cells one behind another, the numbers of corners of their faces, and
 // the number of faces of each cell. What stands behind the list, and everything after a refusal, is work memory.
 ghost use Rattle.std.specs.Prelude.{◌≡◌, [], ◌+◌, ◌*◌, ◌≤◌, ◌<◌, length, take};
@@ -12,7 +14,7 @@ use refusal::{Refusal, Verdict};
 use space::{Plane, Precision};
 
 // How many cells, faces and corners the list has.
-#[derive(Drop)]
+#[derive(Clone, Copy)]
 pub struct Stack {
     pub verdict: Verdict,
     pub cells: usize,

@@ -1,1 +1,3 @@
+#![tactic(auto)]
+
 // Document 01's worked cases that are proved, in one table; all of it stands in `specs/`.

@@ -1,3 +1,5 @@
+#![tactic(auto)]
+
 // The faces of a solid among each other. Corners stand in three slices, face after face: `places` has the points, `nexts` the next
 // point of the same face, and `faces` the number of the face.
 ghost use Rattle.std.specs.Prelude.{◌≡◌, cond, true, false, ◌++◌, map, ◌+◌, ◌*◌, ◌%◌, ◌≤◌, ◌<◌, length, take, eqb};
@@ -22,7 +24,7 @@ fn one_more(k: usize, hit: bool) -> usize
 }
 
 // How often a point stands in a face, and the reverse of an edge among all.
-#[derive(Drop)]
+#[derive(Clone, Copy)]
 struct Counts {
     alone: usize,
     reverse: usize,

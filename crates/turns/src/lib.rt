@@ -1,3 +1,5 @@
+#![tactic(auto)]
+
 // The turn at three points of a plane, and a coordinate between two others.
 ghost use Rattle.std.specs.Prelude.{◌≡◌};
 ghost use Rattle.turns.specs.Turns.{determinant_of, inside, zero_where, turned, orientation_of, in_range, is_positive, is_negative, is_zero};
@@ -7,13 +9,13 @@ use refusal::Refusal;
 use space::Precision;
 
 // A point in the coordinates of a plane.
-#[derive(Drop)]
+#[derive(Clone, Copy)]
 pub struct Projected {
     pub x: Interval,
     pub y: Interval,
 }
 
-#[derive(Drop)]
+#[derive(Clone, Copy)]
 pub enum Turn {
     Positive,
     Negative,

@@ -1,3 +1,5 @@
+#![tactic(auto)]
+
 // The leaves over arrays of three intervals and over a face's corners, for the tests that call them from outside.
 ghost use Rattle.std.specs.Prelude.{◌≡◌};
 ghost use Rattle.interval.specs.Ends.{contains};

@@ -1,3 +1,5 @@
+#![tactic(auto)]
+
 // `volume_sign`: the sign of a shell's six-fold volume in intervals. Point i lies in `points` from 3 * i on; the vertices of
 // facet f are v[starts[f]..starts[f + 1]]; `shell` lists facets.
 ghost use Rattle.std.specs.Prelude.{◌≡◌, map, ℕ, ◌+◌, ◌*◌, ◌<◌, ◌≤◌, length, get_or};
@@ -12,7 +14,7 @@ use interval::{Interval, Sign};
 use refusal::Refusal;
 use space::Point3;
 
-#[derive(Drop)]
+#[derive(Clone, Copy)]
 pub enum Sensed {
     Outward,
     Inward,

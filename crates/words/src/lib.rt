@@ -1,3 +1,5 @@
+#![tactic(auto)]
+
 // Numbers in bytes, the lowest byte first. Each contract is one equation with a definition of `specs/Little.antt`.
 ghost use Rattle.std.specs.Prelude.{◌≡◌, ◌+◌, ◌≤◌, ◌<◌, length, drop, get_or};
 ghost use Rattle.std.proofs.lemmas.List.Edits.{sets};

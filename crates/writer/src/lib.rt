@@ -1,3 +1,5 @@
+#![tactic(auto)]
+
 // A job written into bytes out of lent slices, record after record; `job` reads it again.
 ghost use Rattle.std.specs.Prelude.{◌≡◌, [], map, ◌+◌, ◌*◌, ◌≤◌, length};
 ghost use Rattle.std.proofs.lemmas.List.Edits.{sets};
