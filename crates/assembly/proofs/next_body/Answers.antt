@@ -1,0 +1,106 @@
+use native.Mathlib.Omega.{arith}
+use mathlib.Core.Path.{refl}
+use Rattle.interfaces.specs.Facets.{facets_of}
+use Rattle.assembly.specs.Walk.{no_fewer}
+use Rattle.assembly.specs.Loop.{step_room, stepped}
+use Rattle.assembly.proofs.next_body.Goals as goal
+
+pub offset_bounds-cells-a : goal.offset_bounds-cells-a
+offset_bounds-cells-a c =
+    let w = c.requires.starts.0 in
+    let h = c.requires.starts.1 in
+    let u = w.up c.args.i h in
+    let l = w.inn c.args.i h in
+    let g = c.well_formed.1.1.1.1.1.1.0 in
+    record { fits = omega (arith, u, l, g) }
+
+pub slice_bounds-fuse_body-count : goal.slice_bounds-fuse_body-count
+slice_bounds-fuse_body-count c =
+    let w = c.requires.starts.0 in
+    let h = c.requires.starts.1 in
+    let u = w.up c.args.i h in
+    let l = w.inn c.args.i h in
+    omega (arith, u, l)
+
+pub slice_bounds-fuse_body-start : goal.slice_bounds-fuse_body-start
+slice_bounds-fuse_body-start c =
+    let w = c.requires.starts.0 in
+    let h = c.requires.starts.1 in
+    let u = w.up c.args.i h in
+    let l = w.inn c.args.i h in
+    omega (arith, u, l)
+
+pub slice_bounds-fuse_body-end : goal.slice_bounds-fuse_body-end
+slice_bounds-fuse_body-end c =
+    let w = c.requires.starts.0 in
+    let h = c.requires.starts.1 in
+    let u = w.up c.args.i h in
+    let l = w.inn c.args.i h in
+    omega (arith, u, l)
+
+pub fuse_body-r-requires : goal.fuse_body-r-requires
+fuse_body-r-requires c = let w = c.requires.starts.0 in
+    let h = c.requires.starts.1 in
+    let a = c.args in
+    let fs = facets_of a.v.now a.starts.now a.owners.now a.f in
+    record { points = c.requires.points; bench = c.requires.bench; cells_in_bounds = (step_room fs _ _ _ _ w h _ _ c.requires.starts.3, step_room fs _ _ _ _ w h _ _ c.requires.starts.4) }
+
+pub overflow_sub-shells : goal.overflow_sub-shells
+overflow_sub-shells c =
+    let F = c.fuse_body-r in
+    omega (arith, no_fewer _ _ _ _ _ _ _ _ _ F.ensures)
+
+pub offset_bounds-shells-i : goal.offset_bounds-shells-i
+offset_bounds-shells-i c =
+    let w = c.requires.starts.0 in
+    let h = c.requires.starts.1 in
+    record { fits = omega (arith, c.requires.starts.2, c.well_formed.1.1.1.1.1.1.1.1.1.1.1.1.1.1.1.1.1.1.1.1.1.0) }
+
+pub bounds-shells-i : goal.bounds-shells-i
+bounds-shells-i c =
+    let w = c.requires.starts.0 in
+    let h = c.requires.starts.1 in
+    c.requires.starts.2
+
+pub after_body-requires : goal.after_body-requires
+after_body-requires c =
+    let w = c.requires.starts.0 in
+    let h = c.requires.starts.1 in
+    h
+
+pub shape_of-faces : goal.shape_of-faces
+shape_of-faces c = c.fuse_body-r.auto.faces
+
+pub shape_of-d : goal.shape_of-d
+shape_of-d c = c.fuse_body-r.auto.d
+
+pub shape_of-k : goal.shape_of-k
+shape_of-k c = c.fuse_body-r.auto.k
+
+pub shape_of-s : goal.shape_of-s
+shape_of-s c = c.fuse_body-r.auto.s
+
+pub shape_of-ord : goal.shape_of-ord
+shape_of-ord c = c.fuse_body-r.auto.ord
+
+pub shape_of-ends : goal.shape_of-ends
+shape_of-ends c = c.fuse_body-r.auto.ends
+
+pub shape_of-nodes : goal.shape_of-nodes
+shape_of-nodes c = c.fuse_body-r.auto.nodes
+
+pub shape_of-marks : goal.shape_of-marks
+shape_of-marks c = c.fuse_body-r.auto.cuts
+
+pub shape_of-out : goal.shape_of-out
+shape_of-out c = c.fuse_body-r.auto.out
+
+pub shape_of-sizes : goal.shape_of-sizes
+shape_of-sizes c = c.fuse_body-r.auto.sizes
+
+pub returns : goal.returns
+returns c =
+    let w = c.requires.starts.0 in
+    let h = c.requires.starts.1 in
+    let F = c.fuse_body-r in
+    stepped _ _ _ _ _ w h _ _ _ _ _ _ _ _ _ F.result _ F.ensures refl c.after_body.ensures

@@ -1,0 +1,44 @@
+use native.Mathlib.Omega.{arith}
+use Rattle.fusing.specs.Bodied.{all_facets, few_shells, shells_fine, shells_shelled, body_refused, body_outer, body_made}
+use mathlib.Core.Path.{refl}
+use Rattle.fusing.proofs.order_body.Goals as goal
+
+pub find_outer-t-requires : goal.find_outer-t-requires
+find_outer-t-requires c =
+    (c.requires.points.0, shells_shelled _ _ _ _ _ _ _ _ _ _ _ _ _ _ c.requires.spread c.find_shells-g.ensures c.requires.points.1)
+
+pub returns-in_default : goal.returns-in_default
+returns-in_default c =
+    let a = c.args in
+    body_refused a.v.now a.starts.now a.f _ _ _ _ _ _ _ _ _ _ _ c.requires.spread c.find_shells-g.ensures _ _ _ _ _ _ _ _ _ _ _ c.find_outer-t.ensures c.in_default.is refl
+
+pub list_facets-requires : goal.list_facets-requires
+list_facets-requires c =
+    let a = c.args in
+    let G = c.find_shells-g.ensures in (
+      shells_fine a.v.now a.starts.now a.f _ _ _ _ _ _ _ _ _ _ _ c.requires.spread G,
+      body_outer a.v.now a.starts.now a.f _ _ _ _ _ _ _ _ _ _ _ c.requires.spread G a.points.now a.at a.sat _ a.out.now a.sizes.now _ c.find_outer-t.ensures c.in-Fine.is,
+      omega (arith, all_facets a.v.now a.starts.now a.f _ _ _ _ _ _ _ _ _ _ _ c.requires.spread G, c.requires.faces_in_bounds.0),
+    )
+
+pub list_sizes-requires : goal.list_sizes-requires
+list_sizes-requires c =
+    let a = c.args in
+    let G = c.find_shells-g.ensures in (
+      shells_fine a.v.now a.starts.now a.f _ _ _ _ _ _ _ _ _ _ _ c.requires.spread G,
+      body_outer a.v.now a.starts.now a.f _ _ _ _ _ _ _ _ _ _ _ c.requires.spread G a.points.now a.at a.sat _ a.out.now a.sizes.now _ c.find_outer-t.ensures c.in-Fine.is,
+      omega (arith, few_shells a.v.now a.starts.now a.f _ _ _ _ _ _ _ _ _ _ _ c.requires.spread G, c.requires.faces_in_bounds.1),
+    )
+
+pub overflow_add-result : goal.overflow_add-result
+overflow_add-result c = omega (arith, c.requires.faces_in_bounds.0, c.well_formed)
+
+pub overflow_add-result-2 : goal.overflow_add-result-2
+overflow_add-result-2 c =
+    let a = c.args in
+    omega (arith, c.requires.faces_in_bounds.1, few_shells a.v.now a.starts.now a.f _ _ _ _ _ _ _ _ _ _ _ c.requires.spread c.find_shells-g.ensures, c.well_formed)
+
+pub returns : goal.returns
+returns c =
+    let a = c.args in
+    body_made a.v.now a.starts.now a.f _ _ _ _ _ _ _ _ _ _ _ c.requires.spread c.find_shells-g.ensures _ _ _ _ _ _ _ _ _ c.find_outer-t.ensures c.in-Fine.is c.list_facets.ensures c.list_sizes.ensures

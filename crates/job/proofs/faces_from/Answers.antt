@@ -1,0 +1,35 @@
+use Prim.Native.Nat.{◌+◌, ◌-◌}
+use Rattle.job.specs.Runs.{stands_in, run_in}
+use Rattle.job.proofs.Turns.{face_start, face_turn, face_end}
+use native.Mathlib.Omega.{arith}
+use Rattle.job.proofs.faces_from.Goals as goal
+
+pub loop-n-init : goal.loop-n-init
+loop-n-init c = face_start _ _
+
+pub overflow_add-at : goal.overflow_add-at
+overflow_add-at c = omega (arith, stands_in c.args.job.now c.loop-n.at 3 0 c.stands.result c.stands.ensures c.loop-n-test.true)
+
+pub overflow_mul-at : goal.overflow_mul-at
+overflow_mul-at c = omega (arith, stands_in c.args.job.now c.loop-n.at 3 0 c.stands.result c.stands.ensures c.loop-n-test.true, run_in c.args.job.now (c.loop-n.at + 1) 4 2 c.run-n.result c.run-n.ensures)
+
+pub overflow_add-at-in-loop-n : goal.overflow_add-at-in-loop-n
+overflow_add-at-in-loop-n c = omega (arith, stands_in c.args.job.now c.loop-n.at 3 0 c.stands.result c.stands.ensures c.loop-n-test.true, run_in c.args.job.now (c.loop-n.at + 1) 4 2 c.run-n.result c.run-n.ensures)
+
+pub overflow_add-at-in-loop-n-2 : goal.overflow_add-at-in-loop-n-2
+overflow_add-at-in-loop-n-2 c = omega (arith, stands_in c.args.job.now c.loop-n.at 3 0 c.stands.result c.stands.ensures c.loop-n-test.true, run_in c.args.job.now (c.loop-n.at + 1) 4 2 c.run-n.result c.run-n.ensures)
+
+pub overflow_add-faces : goal.overflow_add-faces
+overflow_add-faces c = omega (arith, stands_in c.args.job.now c.loop-n.at 3 0 c.stands.result c.stands.ensures c.loop-n-test.true, run_in c.args.job.now (c.loop-n.at + 1) 4 2 c.run-n.result c.run-n.ensures, c.loop-n.invariant.placed)
+
+pub overflow_add-corners : goal.overflow_add-corners
+overflow_add-corners c = omega (arith, stands_in c.args.job.now c.loop-n.at 3 0 c.stands.result c.stands.ensures c.loop-n-test.true, run_in c.args.job.now (c.loop-n.at + 1) 4 2 c.run-n.result c.run-n.ensures, c.loop-n.invariant.placed)
+
+pub loop-n-smaller : goal.loop-n-smaller
+loop-n-smaller c = omega (arith, stands_in c.args.job.now c.loop-n.at 3 0 c.stands.result c.stands.ensures c.loop-n-test.true, run_in c.args.job.now (c.loop-n.at + 1) 4 2 c.run-n.result c.run-n.ensures)
+
+pub loop-n-preserved : goal.loop-n-preserved
+loop-n-preserved c = face_turn c.run-n.result c.loop-n.invariant c.stands.ensures c.loop-n-test.true c.run-n.ensures
+
+pub returns : goal.returns
+returns c = face_end c.loop-n.invariant c.stands.ensures c.loop-n-test.false

@@ -1,0 +1,7 @@
+use mathlib.Core.Path.{ap, ◌∙◌}
+use Rattle.refusal.specs.Outcome.{refused}
+use Rattle.stack.specs.Stacks.{stack_of}
+use Rattle.list_lent.proofs.none.Goals as goal
+
+pub returns : goal.returns
+returns c = c.gone.ensures ∙ ap (λ x. stack_of (refused x)) c.refuse.ensures

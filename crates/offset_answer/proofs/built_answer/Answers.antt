@@ -1,0 +1,97 @@
+use Rattle.offset_answer.specs.Laws.{built_stops, built_few, built_lent, built_corners, built_held, built_ends}
+use Rattle.offset_answer.proofs.built_answer.Goals as goal
+
+pub build-found-requires : goal.build-found-requires
+build-found-requires c = record { fits = c.requires.0; bench = c.requires.1 }
+
+pub corners_of-k-requires : goal.corners_of-k-requires
+corners_of-k-requires c =
+    record { listed = c.requires.0.faces; within = c.requires.0.floats }
+
+pub put_answer-requires : goal.put_answer-requires
+put_answer-requires c =
+    (built_few _ c.args.limit _ _ _ _ _ c.requires.0 _ _ _ c.build-found.ensures _ c.in-Made.is, built_lent _ c.args.limit _ _ _ _ _ c.requires.0 _ _ _ c.build-found.ensures _ c.in-Made.is, built_held _ c.args.limit _ _ _ _ _ c.requires.0 _ _ _ c.build-found.ensures _ c.in-Made.is _ c.corners_of-k.ensures.0, built_corners _ c.args.limit _ _ _ _ _ c.requires.0 _ _ _ c.build-found.ensures _ c.in-Made.is _ c.corners_of-k.ensures.0)
+
+pub shape_of-points-in-Refused : goal.shape_of-points-in-Refused
+shape_of-points-in-Refused c =
+    c.build-found.auto.points
+
+pub shape_of-places-in-Refused : goal.shape_of-places-in-Refused
+shape_of-places-in-Refused c =
+    c.build-found.auto.places
+
+pub shape_of-ends-in-Refused : goal.shape_of-ends-in-Refused
+shape_of-ends-in-Refused c =
+    c.build-found.auto.ends
+
+pub shape_of-head-in-Refused : goal.shape_of-head-in-Refused
+shape_of-head-in-Refused c =
+    c.build-found.auto.head
+
+pub shape_of-next-in-Refused : goal.shape_of-next-in-Refused
+shape_of-next-in-Refused c =
+    c.build-found.auto.next
+
+pub shape_of-seen-in-Refused : goal.shape_of-seen-in-Refused
+shape_of-seen-in-Refused c =
+    c.build-found.auto.seen
+
+pub shape_of-work-in-Refused : goal.shape_of-work-in-Refused
+shape_of-work-in-Refused c =
+    c.build-found.auto.work
+
+pub shape_of-nodes-in-Refused : goal.shape_of-nodes-in-Refused
+shape_of-nodes-in-Refused c =
+    c.build-found.auto.nodes
+
+pub shape_of-cuts-in-Refused : goal.shape_of-cuts-in-Refused
+shape_of-cuts-in-Refused c =
+    c.build-found.auto.cuts
+
+pub returns-in-Refused : goal.returns-in-Refused
+returns-in-Refused c =
+    built_stops _ c.args.limit _ _ _ _ _ c.requires.0 _ _ _ c.build-found.ensures c.args.answer.now _ _ c.in-Refused.is c.stop.ensures
+
+pub shape_of-points-in-Made : goal.shape_of-points-in-Made
+shape_of-points-in-Made c =
+    c.build-found.auto.points
+
+pub shape_of-places-in-Made : goal.shape_of-places-in-Made
+shape_of-places-in-Made c =
+    c.build-found.auto.places
+
+pub shape_of-ends-in-Made : goal.shape_of-ends-in-Made
+shape_of-ends-in-Made c =
+    c.build-found.auto.ends
+
+pub shape_of-head-in-Made : goal.shape_of-head-in-Made
+shape_of-head-in-Made c =
+    c.build-found.auto.head
+
+pub shape_of-next-in-Made : goal.shape_of-next-in-Made
+shape_of-next-in-Made c =
+    c.build-found.auto.next
+
+pub shape_of-seen-in-Made : goal.shape_of-seen-in-Made
+shape_of-seen-in-Made c =
+    c.build-found.auto.seen
+
+pub shape_of-work-in-Made : goal.shape_of-work-in-Made
+shape_of-work-in-Made c =
+    c.build-found.auto.work
+
+pub shape_of-nodes-in-Made : goal.shape_of-nodes-in-Made
+shape_of-nodes-in-Made c =
+    c.build-found.auto.nodes
+
+pub shape_of-cuts-in-Made : goal.shape_of-cuts-in-Made
+shape_of-cuts-in-Made c =
+    c.build-found.auto.cuts
+
+pub shape_of-answer : goal.shape_of-answer
+shape_of-answer c =
+    c.put_answer.auto.answer
+
+pub returns-in-Made : goal.returns-in-Made
+returns-in-Made c =
+    built_ends _ c.args.limit _ _ _ _ _ c.requires.0 _ _ _ c.build-found.ensures _ c.in-Made.is c.args.answer.now _ _ c.put_answer.ensures

@@ -1,0 +1,27 @@
+use Prim.Native.Nat.{◌+◌, ◌-◌, ◌%◌, ◌<◌}
+use native.Mathlib.Omega.{arith}
+use native.Mathlib.Nat.{mod-lt}
+use Rattle.ring.specs.Laws.{ringing_start, ringing_step, ringing_end}
+use Rattle.ring.proofs.cut_ring.Goals as goal
+
+pub loop-i-init : goal.loop-i-init
+loop-i-init c = ringing_start _ _ _ _ _ _ _ _ c.requires.3
+
+pub overflow_mul-j : goal.overflow_mul-j
+overflow_mul-j c = let next-below : (c.loop-i.i + 1) % c.args.n < c.args.n = mod-lt (c.loop-i.i + 1) (omega (arith, c.loop-i-test.true)) in
+    omega (arith, next-below, c.requires.0)
+
+pub overflow_add-at-in-loop-i : goal.overflow_add-at-in-loop-i
+overflow_add-at-in-loop-i c = let next-below : (c.loop-i.i + 1) % c.args.n < c.args.n = mod-lt (c.loop-i.i + 1) (omega (arith, c.loop-i-test.true)) in
+    omega (arith, next-below, c.requires.0)
+
+pub get_point-b-requires : goal.get_point-b-requires
+get_point-b-requires c = let next-below : (c.loop-i.i + 1) % c.args.n < c.args.n = mod-lt (c.loop-i.i + 1) (omega (arith, c.loop-i-test.true)) in
+    omega (arith, next-below, c.requires.0)
+
+pub loop-i-preserved : goal.loop-i-preserved
+loop-i-preserved c =
+    ringing_step _ _ _ _ _ _ _ _ _ _ _ _ _ _ _ _ _ c.loop-i-test.true c.get_point-a.ensures c.get_point-b.ensures c.cut_edge-s.ensures c.cut_edge-s.auto.face c.cut_edge-s.auto.cap c.loop-i.invariant
+
+pub returns : goal.returns
+returns c = ringing_end _ _ _ _ _ _ _ _ _ _ _ _ c.loop-i-test.false c.loop-i.invariant

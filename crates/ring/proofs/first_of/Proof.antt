@@ -1,8 +1,0 @@
-use borrow.Author.Rules.{rules}
-use Rattle.ring.specs.Rings.{first_of}
-use Rattle.ring.proofs.first_of.Statement.{statement}
-use Rattle.ring.proofs.first_of.Tie as tie
-
-pub first-of-spec : {M : Type 1} → statement M
-unfolding first_of
-first-of-spec = tie.close (tie.spec (λ c. search rules) (λ c. search rules) (λ c. cc) (λ c. cc))

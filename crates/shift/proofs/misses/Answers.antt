@@ -1,0 +1,4 @@
+use Rattle.shift.proofs.misses.Goals as goal
+
+pub returns : goal.returns
+returns c = cc
