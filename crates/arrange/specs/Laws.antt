@@ -21,7 +21,7 @@ use Rattle.room.specs.Laws.{sets_append, next_count, counts_done}
 use Rattle.indexed.specs.declared.Counted.{Counted}
 use Rattle.indexed.specs.declared.Counted.TheVariants as C
 use Rattle.indexed.specs.Stored.{counted, flat}
-use Rattle.indexed.specs.Laws.{flat_snoc, place_more}
+use Rattle.indexed.proofs.Laws.{flat_snoc, place_more}
 use Rattle.solids.specs.Frames.{faces_at}
 use Rattle.inside.specs.Slices.{Same, Roomy}
 use Rattle.conform.specs.Conform.{conform}

@@ -19,7 +19,7 @@ use Rattle.room.specs.Laws.{all_none, all_snoc, all_map, all_get}
 use Rattle.indexed.specs.declared.Pick.TheVariants.{Only}
 use Rattle.indexed.specs.Indexed.{met, only_in, search_by, Places, placed, index_point, with_face, index_face, index_faces}
 use Rattle.indexed.specs.Stored.{flat}
-use Rattle.indexed.specs.Laws.{joined_low}
+use Rattle.indexed.proofs.Laws.{joined_low}
 use Rattle.merge.specs.Merge.{merge}
 use Rattle.solids.specs.Frames.{faces_at}
 use Rattle.conform.specs.Cycles.{Among}

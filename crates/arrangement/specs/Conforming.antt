@@ -20,7 +20,7 @@ use Rattle.room.specs.Steps.{walk_keeps}
 use Rattle.indexed.specs.declared.Pick.TheVariants.{Only}
 use Rattle.indexed.specs.Indexed.{Search, search_by, Places, joined, index_point, index_face, index_faces}
 use Rattle.indexed.specs.Stored.{flat}
-use Rattle.indexed.specs.Laws.{flat_snoc, joined_most, flat_corners}
+use Rattle.indexed.proofs.Laws.{flat_snoc, joined_most, flat_corners}
 use Rattle.merge.specs.Merge.{merge}
 use Rattle.incidence.specs.declared.Line.{Line}
 use Rattle.incidence.specs.declared.Incidence.{Incidence}

@@ -19,11 +19,11 @@ use Rattle.indexed.specs.declared.Counted.{Counted}
 use Rattle.indexed.specs.declared.Counted.TheVariants as C
 use Rattle.indexed.specs.Indexed.{indexed}
 use Rattle.indexed.specs.Stored.{counted, flat, Stored, Fits}
-use Rattle.indexed.specs.Laws.{counted_made, counted_refused, stored_points, stored_places}
+use Rattle.indexed.proofs.Laws.{counted_made, counted_refused, stored_points, stored_places}
 use Rattle.offset.specs.Indexes.{placing_fits, stored_made, stored_not, indexed_few, indexed_points, indexed_faces}
 use Rattle.solids.specs.Frames.{faces_at, Placing}
 use Rattle.solid_check.specs.Check.{solid_at, check}
-use Rattle.solid_check.specs.Laws.{lengths_are}
+use Rattle.solid_check.proofs.Laws.{lengths_are}
 use Rattle.built.specs.Built.{built}
 
 -- ---- an outcome by its verdict

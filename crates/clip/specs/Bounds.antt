@@ -16,8 +16,8 @@ use Rattle.space.specs.declared.Precision.{Precision}
 use Rattle.space.specs.Shapes.{Face, Cell, Part, nothing, part, corners}
 use Rattle.polygon.specs.Unique.{unique}
 use Rattle.hull.specs.Hull.{cap_of}
-use Rattle.hull.specs.Laws.{cap_hull}
-use Rattle.hull.specs.Members.{hull_least}
+use Rattle.hull.proofs.Laws.{cap_hull}
+use Rattle.hull.proofs.Members.{hull_least}
 use Rattle.ring.specs.Rings.{cut_ring}
 use Rattle.room.specs.Rooms.{cell_floats, cell_counts}
 use Rattle.room.specs.Laws.{corners_none, corners_snoc, all_none, all_snoc, all_in}

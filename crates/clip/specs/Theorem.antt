@@ -25,7 +25,7 @@ use Rattle.edge.specs.declared.Meet.TheVariants as M
 use Rattle.edge.specs.Meets.{Signs, unseen, noted, is_positive, is_negative, at_corner, held_back, corner_meet, crosses, no_ratio, between, cut_meet, unless_vague, landed, edge_meet}
 use Rattle.edge.specs.Laws.{cut_zero, cut_between}
 use Rattle.polygon.specs.Members.{All, unique_all}
-use Rattle.hull.specs.Members.{cap_all}
+use Rattle.hull.proofs.Members.{cap_all}
 use Rattle.room.specs.Rooms.{In}
 use Rattle.room.specs.Laws.{all_none, all_snoc, all_map, all_both, all_in, all_at}
 use Rattle.room.specs.Steps.{walk_keeps, walk_back, walk_runs}

@@ -15,7 +15,6 @@ use Rattle.space.specs.declared.Point3.{Point3}
 use Rattle.space.specs.declared.Plane.{Plane}
 use Rattle.space.specs.declared.Precision.{Precision}
 use Rattle.space.specs.Shapes.{Cell, Part, corners}
-use Rattle.polygon.specs.declared.Polygon.{Polygon}
 use Rattle.polygon.specs.declared.Made.{Made}
 use Rattle.polygon.specs.Polygons.{corners_of, polygon, made}
 use Rattle.polygon.specs.Memory.{floats_of, points_at}

@@ -1,5 +1,4 @@
 -- The edges that facets run, three numbers each in a slice: the facet's place in the body, where the edge begins, where it ends.
-use denote.Slice.{shr_slice_at}
 use Rattle.std.specs.Prelude.{◌≡◌, ℕ, zero, suc, ◌+◌, ◌-◌, ◌*◌, ◌%◌, ◌≤◌, ◌<◌, length, get_or, set, take, drop}
 use Rattle.std.proofs.Math.Path.{refl, sym, ap}
 use Rattle.std.proofs.Common.{ap₂, ◌∙◌, subst, arith, add-one, mod-lt, length-append, length-set, drop_of_length-le, get_or-set_same, get_or-set_other, get_or-take, get_or-drop, drop-cons, ext_get_or}
@@ -12,7 +11,7 @@ use Rattle.lists.specs.Walks.{Pair, cyclic}
 use Rattle.lists.specs.Laws.{next_pair, length_cyclic}
 use Rattle.sums.specs.Sum.{Each}
 use Rattle.sums.specs.Keys.{range}
-use Rattle.sums.specs.KeyLaws.{length_range, get_d_range, get_d_map_lt}
+use Rattle.sums.proofs.KeyLaws.{length_range, get_d_range, get_d_map_lt}
 use Rattle.keys.specs.Rows.{Starts, row}
 use Rattle.bodies.specs.Fusing.{Run, no_run, run_of, runs}
 use Rattle.interfaces.specs.Facets.{facets_of, vertices_at}
@@ -117,8 +116,8 @@ module _ (v : List ℕ) (a e p c₀ : ℕ) (d₀ : List ℕ) where
   rounding_start = record { upto = omega arith; count = omega arith; left = refl; size = refl }
 
   module _ (ha : a ≤ e) (hv : e ≤ length v) (room : 3 * (c₀ + (e - a)) ≤ length d₀) where
-    shr_slice_at : (i : ℕ) → i < e - a → get_or (slice a e v) i 0 ≡ get_or v (a + i) 0
-    shr_slice_at i h = get_or-drop a (take e v) i 0 ∙ get_or-take e v (a + i) 0 (omega arith)
+    run_at : (i : ℕ) → i < e - a → get_or (slice a e v) i 0 ≡ get_or v (a + i) 0
+    run_at i h = get_or-drop a (take e v) i 0 ∙ get_or-take e v (a + i) 0 (omega arith)
 
     pub rounding_next : (i : ℕ) → i < e - a → a + (i + 1) % (e - a) < length v
     rounding_next i h = let z : (i + 1) % (e - a) < e - a = mod-lt (i + 1) (omega arith) in omega arith
@@ -129,8 +128,8 @@ module _ (v : List ℕ) (a e p c₀ : ℕ) (d₀ : List ℕ) where
         let len : length l ≡ e - a = length-slice a e v hv in
         let x = get_or v (a + i) 0 in
         let y = get_or v (a + (i + 1) % (e - a)) 0 in
-        let ex : get_or l i 0 ≡ x = shr_slice_at i h in
-        let ey : get_or l ((i + 1) % length l) 0 ≡ y = ap (λ n. get_or l ((i + 1) % n) 0) len ∙ shr_slice_at ((i + 1) % (e - a)) (mod-lt (i + 1) (omega arith)) in
+        let ex : get_or l i 0 ≡ x = run_at i h in
+        let ey : get_or l ((i + 1) % length l) 0 ≡ y = ap (λ n. get_or l ((i + 1) % n) 0) len ∙ run_at ((i + 1) % (e - a)) (mod-lt (i + 1) (omega arith)) in
         let r : Run = record { face = p; tail = x; tip = y } in
         let nx : drop i (cyclic l) ≡ record { from = x; to = y } ∷ drop (i + 1) (cyclic l) = next_pair l i 0 (omega arith) ∙ ap₂ (λ s t. record { from = s; to = t } ∷ drop (i + 1) (cyclic l)) ex ey in
         record {

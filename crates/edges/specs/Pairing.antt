@@ -11,7 +11,8 @@ use Rattle.refusal.specs.Outcome.{Outcome, ok, refused, refuse, refusal_of, unle
 use Rattle.refusal.specs.Laws.{never_fine}
 use Rattle.sums.specs.Sum.{less, less_cases}
 use Rattle.sums.specs.Keys.{order, users, pairs}
-use Rattle.sums.specs.SizeLaws.{Sized, Fresh, at, one_users, two_users, more_users}
+use Rattle.sums.specs.SizeLaws.{Sized, Fresh, at}
+use Rattle.sums.proofs.SizeLaws.{one_users, two_users, more_users}
 use Rattle.sums.specs.RunLaws.{Run}
 use Rattle.keys.specs.Rows.{Starts, rows}
 use Rattle.keys.specs.Sized.{Ordered, place_at, place_in, many_order}

@@ -4,7 +4,7 @@ use Rattle.std.proofs.Common.{sym, ap, ap₂, ◌∙◌, subst, arith, length-se
 use Rattle.std.proofs.Math.Decide.{dec_lt}
 use Rattle.std.proofs.lemmas.List.{length-map}
 use Rattle.std.proofs.Math.Seq.{slice, slice-cons, slice_empty}
-use Rattle.sums.specs.KeyLaws.{get_d_map_lt}
+use Rattle.sums.proofs.KeyLaws.{get_d_map_lt}
 use Rattle.keys.specs.Rows.{Starts, row, rows, row_at, length_rows}
 use Rattle.bodies.specs.Fusing.{Run, no_run, edge_keys}
 use Rattle.edges.specs.Laid.{laid_run, laid_runs, length_laid, laid_at}

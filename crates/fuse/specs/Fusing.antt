@@ -11,13 +11,14 @@ use Rattle.refusal.specs.Outcome.{Outcome, each, heard}
 use Rattle.refusal.specs.Laws.{stop, go}
 use Rattle.sums.specs.Sum.{sum, sum_one, hit, occ, Each}
 use Rattle.sums.specs.Keys.{keep}
-use Rattle.sums.specs.KeyLaws.{sum_ext, full_hit, all_each, lone_in}
-use Rattle.sums.specs.CountLaws.{ones}
+use Rattle.sums.proofs.KeyLaws.{sum_ext, full_hit, all_each, lone_in}
+use Rattle.sums.proofs.CountLaws.{ones}
 use Rattle.sums.specs.ComponentLaws.{Ascend, Components}
 use Rattle.keys.specs.Rows.{Starts, rows}
 use Rattle.groups.specs.Groups.{Grouped}
 use Rattle.bodies.specs.Fusing.{Facet, Sense, cell_of, keys, check_facets, exterior, faces_of, body_of, materials, fuse}
-use Rattle.bodies.specs.ListLaws.{spread, Valid, size, cells}
+use Rattle.bodies.specs.ListLaws.{Valid}
+use Rattle.bodies.proofs.ListLaws.{spread, size, cells}
 use Rattle.interfaces.specs.Facets.{facets_of}
 use Rattle.volume.specs.Shell.{Points}
 use Rattle.fusing.specs.Groups.{grouped_starts, grouped_rows}

@@ -7,11 +7,12 @@ use Rattle.refusal.specs.declared.Verdict.{Verdict}
 use Rattle.refusal.specs.declared.Verdict.TheVariants.{Fine, Refused}
 use Rattle.refusal.specs.Outcome.{Outcome, ok, refused}
 use Rattle.sums.specs.Sum.{Each}
-use Rattle.sums.specs.KeyLaws.{each_append}
+use Rattle.sums.proofs.KeyLaws.{each_append}
 use Rattle.groups.specs.Groups.{joined}
 use Rattle.bodies.specs.Fusing.{Facet, Sense, Bodies, fuse}
 use Rattle.bodies.specs.ListLaws.{Valid}
-use Rattle.bodies.specs.Demand.{Demand, demand}
+use Rattle.bodies.specs.Demand.{Demand}
+use Rattle.bodies.proofs.Demand.{demand}
 use Rattle.listing.specs.Appended.{appended}
 use Rattle.listing.specs.Listed.{joined_both}
 use Rattle.assembly.specs.declared.Fused.{Fused}

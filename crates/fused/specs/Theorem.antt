@@ -8,10 +8,11 @@ use Rattle.space.specs.declared.Precision.{Precision}
 use Rattle.space.specs.Shapes.{Face, Cell}
 use Rattle.polygon.specs.Members.{All}
 use Rattle.sums.specs.Keys.{range}
-use Rattle.sums.specs.KeyLaws.{get_d_map_lt, length_range, get_d_range}
+use Rattle.sums.proofs.KeyLaws.{get_d_map_lt, length_range, get_d_range}
 use Rattle.bodies.specs.Fusing.{Facet, no_facet, cell_of, Bodies, fuse}
 use Rattle.bodies.specs.ListLaws.{Valid}
-use Rattle.bodies.specs.Demand.{Demand, demand}
+use Rattle.bodies.specs.Demand.{Demand}
+use Rattle.bodies.proofs.Demand.{demand}
 use Rattle.arrangement.specs.Arrangements.{Arrangement, arrange_cells}
 use Rattle.arrangement.specs.Facts.{arrangement_owned}
 use Rattle.fused.specs.Bodies.{facets_in, volume_in, fuse_in, drawn_in, fuse_cells}

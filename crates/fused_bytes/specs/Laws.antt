@@ -23,14 +23,14 @@ use Rattle.stack.specs.declared.Stack.{Stack}
 use Rattle.stack.specs.Stacks.{list_at, Holds}
 use Rattle.stack.specs.Stacks as L
 use Rattle.sums.specs.Sum.{Each}
-use Rattle.sums.specs.KeyLaws.{each_get_d}
+use Rattle.sums.proofs.KeyLaws.{each_get_d}
 use Rattle.groups.specs.Groups.{joined}
 use Rattle.listing.specs.Appended.{appended}
 use Rattle.keys.specs.Rows as K
 use Rattle.bodies.specs.Fusing as F
 use Rattle.bodies.specs.Fusing.{Bodies, fuse}
 use Rattle.bodies.specs.ListLaws.{Valid}
-use Rattle.bodies.specs.Demand.{demand}
+use Rattle.bodies.proofs.Demand.{demand}
 use Rattle.interfaces.specs.Facets.{facets_of, many_facets}
 use Rattle.volume.specs.Shell as O
 use Rattle.cavities.specs.Steps.{volume_of}

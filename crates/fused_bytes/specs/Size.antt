@@ -14,14 +14,15 @@ use Rattle.polygon.specs.Members.{All, all_append}
 use Rattle.clip.specs.Clips.{Wide}
 use Rattle.sums.specs.Sum.{sum, hit, pick, full, Each, pick_le}
 use Rattle.sums.specs.Keys.{users}
-use Rattle.sums.specs.KeyLaws.{sum_lone, full_le, full_ext, each_imp, each_get_d}
+use Rattle.sums.proofs.KeyLaws.{sum_lone, full_le, full_ext, each_imp, each_get_d}
 use Rattle.groups.specs.Groups.{bounds}
 use Rattle.indexed.specs.Stored.{flat}
 use Rattle.writer.specs.Rows.{row}
 use Rattle.answer.specs.Answers.{facet_answer, shell_answer}
 use Rattle.answer.specs.Laws.{length_count, length_facet}
 use Rattle.bodies.specs.Fusing.{Facet, Bodies, keys}
-use Rattle.bodies.specs.ListLaws.{Valid, size, answered, listed_weight}
+use Rattle.bodies.specs.ListLaws.{Valid}
+use Rattle.bodies.proofs.ListLaws.{size, answered, listed_weight}
 use Rattle.bodies.specs.Full.{Full}
 use Rattle.parts.specs.Cells.{valid_cells}
 use Rattle.interfaces.specs.Facets.{many_facets}

@@ -7,11 +7,11 @@ use Rattle.lists.specs.Walks.{cyclic}
 use Rattle.lists.specs.Laws.{length_cyclic}
 use Rattle.sums.specs.Sum.{sum, sum_one, hit, pick, full, Each, pick_le}
 use Rattle.sums.specs.Keys.{users}
-use Rattle.sums.specs.KeyLaws.{sum_lone, full_le, full_ext, lone_in, all_each, each_get_d}
-use Rattle.sums.specs.CountLaws.{ones}
+use Rattle.sums.proofs.KeyLaws.{sum_lone, full_le, full_ext, lone_in, all_each, each_get_d}
+use Rattle.sums.proofs.CountLaws.{ones}
 use Rattle.keys.specs.Rows.{Starts, row}
 use Rattle.bodies.specs.Fusing as F
-use Rattle.bodies.specs.ListLaws.{size}
+use Rattle.bodies.proofs.ListLaws.{size}
 use Rattle.interfaces.specs.Facets.{facets_of, many_facets}
 use Rattle.edges.specs.Laid.{row_runs}
 use Rattle.edges.specs.Whole.{Room}

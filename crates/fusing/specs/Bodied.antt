@@ -12,13 +12,14 @@ use Rattle.refusal.specs.declared.Verdict.{Verdict}
 use Rattle.refusal.specs.declared.Verdict.TheVariants.{Fine, Refused}
 use Rattle.refusal.specs.Outcome.{Outcome, ok, refused}
 use Rattle.sums.specs.Sum.{Each}
-use Rattle.sums.specs.KeyLaws.{get_d_map_lt, each_get_d}
+use Rattle.sums.proofs.KeyLaws.{get_d_map_lt, each_get_d}
 use Rattle.sums.specs.Components.{components}
-use Rattle.sums.specs.ComponentLaws.{Components, none_empty}
+use Rattle.sums.specs.ComponentLaws.{Components}
+use Rattle.sums.proofs.ComponentLaws.{none_empty}
 use Rattle.keys.specs.Rows.{Starts, rows}
 use Rattle.groups.specs.Groups.{joined, Grouped, Within, joins_of}
 use Rattle.bodies.specs.Fusing.{Sense, order_shells}
-use Rattle.bodies.specs.Full.{each_some}
+use Rattle.bodies.proofs.Full.{each_some}
 use Rattle.shells.specs.Named.{name_in, Spread, found, many_nodes, node_in, joined_map}
 use Rattle.cavities.specs.Outer.{Ordered, outer_of}
 use Rattle.cavities.specs.Steps.{volume_of, Shelled}

@@ -15,13 +15,14 @@ use Rattle.lists.specs.Walks.{cyclic}
 use Rattle.lists.specs.Laws.{length_cyclic}
 use Rattle.sums.specs.Sum.{sum, occ, pick, Each}
 use Rattle.sums.specs.Keys.{put, keep, pairs}
-use Rattle.sums.specs.KeyLaws.{each_append, each_map, each_all, each_imp, each_get_d, pairs_each, Sharing}
+use Rattle.sums.specs.KeyLaws.{Sharing}
+use Rattle.sums.proofs.KeyLaws.{each_append, each_map, each_all, each_imp, each_get_d, pairs_each}
 use Rattle.sums.specs.Components.{components}
 use Rattle.keys.specs.Rows.{Starts, row}
 use Rattle.groups.specs.Groups.{Within, joins_of}
 use Rattle.groups.specs.Ends.{ends_of, joins_ends, within_ends}
 use Rattle.bodies.specs.Fusing as F
-use Rattle.bodies.specs.Full.{each_kept}
+use Rattle.bodies.proofs.Full.{each_kept}
 use Rattle.interfaces.specs.Facets.{facets_of, cell_at}
 use Rattle.edges.specs.declared.Paired.{Paired}
 use Rattle.edges.specs.Laid.{row_runs, runs_rows, Listed}

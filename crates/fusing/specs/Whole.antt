@@ -8,7 +8,7 @@ use Rattle.refusal.specs.declared.Verdict.{Verdict}
 use Rattle.refusal.specs.declared.Verdict.TheVariants.{Fine, Refused}
 use Rattle.refusal.specs.Outcome.{heard}
 use Rattle.sums.specs.Sum.{Each}
-use Rattle.sums.specs.KeyLaws.{each_get_d}
+use Rattle.sums.proofs.KeyLaws.{each_get_d}
 use Rattle.keys.specs.Rows.{Starts}
 use Rattle.groups.specs.Groups.{Within}
 use Rattle.groups.specs.Ends.{ends_of}

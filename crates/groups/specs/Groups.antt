@@ -8,9 +8,9 @@ use Rattle.std.proofs.lemmas.List.{length-replicate, set_at}
 use Rattle.std.proofs.Math.Seq.{drop-length, get_or-set_same, drop-set-lt, take-suc-set}
 use Rattle.sums.specs.Sum.{sum, open', open_le, flagged_one, sum_one, flagged}
 use Rattle.sums.specs.Components.{Got, start, gather, comps, components}
-use Rattle.sums.specs.ComponentLaws.{comps_new, comps_old, root_weight, root_size}
+use Rattle.sums.proofs.ComponentLaws.{comps_new, comps_old, root_weight, root_size}
 use Rattle.sums.specs.Keys.{nbrs}
-use Rattle.sums.specs.KeyLaws.{drop_up, sum_append}
+use Rattle.sums.proofs.KeyLaws.{drop_up, sum_append}
 use Rattle.groups.specs.Chain.{Inside, Linked, around, pairs_of}
 use Rattle.groups.specs.Stack.{Net, linked_net, get_d_any}
 use Rattle.groups.specs.Walk.{Walked}

@@ -3,7 +3,7 @@ use Rattle.std.specs.Prelude.{◌≡◌, refl, List, [], ◌∷◌, ◌++◌, �
 use Rattle.std.proofs.Common.{sym, ap, ◌∙◌, append_assoc, append-nil, arith, add-one, length-set, length-append, take-suc-set, drop-set-lt, get_or-set_same, drop-drop}
 use Rattle.sums.specs.Sum.{sum, open', closed_set, open_le}
 use Rattle.sums.specs.Components.{St, Got, grown, start, gather, visits}
-use Rattle.sums.specs.ComponentLaws.{visits_keep}
+use Rattle.sums.proofs.ComponentLaws.{visits_keep}
 use Rattle.groups.specs.Stack.{stack, state, Room, After, get_d_any}
 
 -- What the walk leaves in the slices: from at on the group, in its order; behind it nothing is touched.

@@ -30,7 +30,7 @@ use Rattle.offset.specs.Indexes.{corners_same, stored_not, indexed_counts}
 use Rattle.offset.specs.Whole.{cell_size, cell_not, counts_are}
 use Rattle.hollow.specs.Stored.{behind, Walls}
 use Rattle.solid_check.specs.Check.{check, cell_of, framed}
-use Rattle.solid_check.specs.Laws.{check_passed, check_counted, cell_framed}
+use Rattle.solid_check.proofs.Laws.{check_passed, check_counted, cell_framed}
 use Rattle.built.specs.Built.{built, Bench}
 use Rattle.ended.specs.declared.Ended.{Ended}
 use Rattle.ended.specs.Ends.{fitted, stopped, Handed}

@@ -21,7 +21,7 @@ use Rattle.side.specs.Sides.{side_of, opposite_of}
 use Rattle.polygon.specs.Members.{All, all_append}
 use Rattle.room.specs.Laws.{all_none, all_snoc, all_map}
 use Rattle.indexed.specs.Indexed.{Search, place_in, Places, joined, placed, index_point, index_points, with_face, index_face, indexed}
-use Rattle.indexed.specs.Laws.{joined_low}
+use Rattle.indexed.proofs.Laws.{joined_low}
 use Rattle.solids.specs.Frames.{point_of, plane_for}
 use Rattle.hollow.specs.Hollows.{reversed_face, Hollow, hollow}
 use Rattle.hollow.specs.Theorem.{Answered, hollow_answered}

@@ -1,4 +1,2 @@
 pub mod Hull
 pub mod Layout
-pub mod Laws
-pub mod Members

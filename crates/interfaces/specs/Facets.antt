@@ -5,7 +5,7 @@ use Rattle.std.proofs.Common.{sym, ap₂, ◌∙◌, subst, arith}
 use mathlib.Core.List.{List, [], ◌∷◌, map}
 use Rattle.std.proofs.Math.ListN.{length-map}
 use Rattle.sums.specs.Keys.{range, sorted}
-use Rattle.sums.specs.KeyLaws.{length_range, get_d_range, get_d_map_lt}
+use Rattle.sums.proofs.KeyLaws.{length_range, get_d_range, get_d_map_lt}
 use Rattle.keys.specs.Rows.{Starts, row, rows}
 use Rattle.bodies.specs.Fusing.{Facet, no_facet, cell_of, vertices_of, keys}
 

@@ -12,7 +12,8 @@ use Rattle.refusal.specs.Outcome.{ok, refused, refusal_of, walk, heard}
 use Rattle.refusal.specs.Laws.{never_fine}
 use Rattle.sums.specs.Sum.{hit}
 use Rattle.sums.specs.Keys.{keep, order, users, lone, pairs}
-use Rattle.sums.specs.SizeLaws.{Sized, at, lones_from, one_lone, two_users, two_lone, more_users}
+use Rattle.sums.specs.SizeLaws.{Sized, at, lones_from}
+use Rattle.sums.proofs.SizeLaws.{one_lone, two_users, two_lone, more_users}
 use Rattle.sums.specs.RunLaws.{Run}
 use Rattle.groups.specs.Ends.{ends_of}
 use Rattle.bodies.specs.Fusing.{Facet, cell_of, keys, judge_users, check_facets, exterior, interfaces}

@@ -8,7 +8,8 @@ use Rattle.refusal.specs.declared.Refusal.{Refusal}
 use Rattle.refusal.specs.Outcome.{Outcome, ok, refused, walk}
 use Rattle.refusal.specs.Laws.{walk_go, walk_stop, walk_end}
 use Rattle.sums.specs.Keys.{order, users, led, flat, pairs}
-use Rattle.sums.specs.SizeLaws.{Fresh, at, pairs_from, fresh_start, fresh_next, one_left, one_users, one_pairs, two_left, two_users, two_alike, two_pairs}
+use Rattle.sums.specs.SizeLaws.{Fresh, at, pairs_from}
+use Rattle.sums.proofs.SizeLaws.{fresh_start, fresh_next, one_left, one_users, one_pairs, two_left, two_users, two_alike, two_pairs}
 use Rattle.sums.specs.RunLaws.{Run}
 use Rattle.groups.specs.Ends.{ends_of}
 

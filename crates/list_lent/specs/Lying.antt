@@ -17,7 +17,7 @@ use Rattle.polygon.specs.MemoryLaws.{length_points_at}
 use Rattle.room.specs.Rooms.{frame_floats, frame_at, plane_floats, plane_at, face_floats, face_at, cell_floats, cell_counts, cell_at, Small}
 use Rattle.room.specs.Laws.{sets_append, sets_frame, sets_plane, length_floats_of, corners_cons, corners_none, cell_counts_lem, length_cell_at}
 use Rattle.clip.specs.Clips.{Wide}
-use Rattle.indexed.specs.Laws.{points_kept}
+use Rattle.indexed.proofs.Laws.{points_kept}
 use Rattle.stack.specs.Stacks.{cells_floats, cells_counts, cells_sizes, behind, cells_at, stack_of, Front, Sound, Lies}
 use Rattle.stack.specs.Laws.{all_corners_from, length_cells_floats, length_cells_sizes, behind_cell}
 use Rattle.list_lent.specs.Lent.{among, all_among, total}

@@ -7,7 +7,7 @@ use Rattle.std.proofs.Math.Seq.{slice, drop-length, length-slice}
 use Rattle.std.proofs.Math.Dec.{eqb, eqb_refl}
 use Rattle.sums.specs.Sum.{Each}
 use Rattle.sums.specs.Keys.{range}
-use Rattle.sums.specs.KeyLaws.{each_map, length_range, get_d_range}
+use Rattle.sums.proofs.KeyLaws.{each_map, length_range, get_d_range}
 use Rattle.bodies.specs.Fusing.{every, some, turned_by, same_cycle}
 
 -- two rows of a slice

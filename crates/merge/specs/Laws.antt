@@ -19,7 +19,7 @@ use Rattle.indexed.specs.declared.Counted.TheVariants as C
 use Rattle.indexed.specs.declared.Pick.TheVariants.{Only}
 use Rattle.indexed.specs.Indexed.{search_by, index_faces}
 use Rattle.indexed.specs.Stored.{counted, flat, Stored}
-use Rattle.indexed.specs.Laws.{place_more, counted_made, counted_refused}
+use Rattle.indexed.proofs.Laws.{place_more, counted_made, counted_refused}
 use Rattle.merge.specs.Merge.{capped, merge, owners_from}
 
 -- ---- 14 after all

@@ -5,6 +5,5 @@ pub mod Solids
 pub mod Cuts
 pub mod Never
 pub mod Fusing
-pub mod Moves
 pub mod Mesh
 pub mod Calls

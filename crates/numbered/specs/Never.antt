@@ -2,7 +2,7 @@
 use Rattle.std.proofs.Math.Path.{◌≡◌, refl, ap}
 use Rattle.std.proofs.Common.{sym, ◌∙◌, subst, arith}
 use Rattle.std.specs.Prelude.{Bool, not, ◌&&◌, ◌||◌, List, ℕ, T}
-use Rattle.std.proofs.Math.Bool.{true, false, cond}
+use Rattle.std.proofs.Math.Bool.{true, false}
 use Rattle.std.proofs.lemmas.Bool.{not-false}
 use Rattle.std.specs.Float.{binary64}
 use Rattle.std.specs.Float.Ieee.{lt, le, of_bits}
@@ -23,9 +23,7 @@ use Rattle.space.specs.Vector.{box_of, finest, coarsest, fair_precision}
 use Rattle.side.specs.declared.Side.{Side}
 use Rattle.side.specs.declared.Side.TheVariants.{Positive, Negative, Zero, Refused}
 use Rattle.side.specs.Sides.{distance_of, is_positive, is_negative, within, first_of, classed, side_of}
-use Rattle.edge.specs.declared.Meet.{Meet}
-use Rattle.edge.specs.declared.Meet.TheVariants as M
-use Rattle.edge.specs.Meets.{crosses, vague, no_ratio, between, landed, unless_vague, cut_meet, edge_meet}
+use Rattle.edge.specs.Meets.{crosses, vague, no_ratio}
 use Rattle.words.specs.Little.{word_at, float_at}
 use Rattle.job.specs.declared.Layout.{Layout}
 use Rattle.job.specs.Records.{span_of}
@@ -155,16 +153,3 @@ module _ (t : Precision) (w : Plane) (a b : Point3) (s : Sure t) where
       by Negative (Refused r) f g h = let q : ◌≡◌ {A = ℕ} 0 1 = cc in absurd (omega arith)
       by Zero y f g h = let q : ◌≡◌ {A = ℕ} 0 1 = cc in absurd (omega arith)
       by (Refused r) y f g h = let q : ◌≡◌ {A = ℕ} 0 1 = cc in absurd (omega arith)
-
-  -- an edge meets the plane as if 8 were not tested
-  pub edge_sure : edge_meet t w a b (side_of t w a) (side_of t w b) ≡ cond (crosses (side_of t w a) (side_of t w b)) (landed (side_of t w (between w a b)) (between w a b)) M.Drop
-  unfolding edge_meet cut_meet
-  edge_sure = by (crosses (side_of t w a) (side_of t w b)) (no_ratio w a b) (landed (side_of t w (between w a b)) (between w a b)) crossing_sure
-    where
-      by : (c bad : Bool) (m : Meet) → (c ≡ true → bad ≡ false) → cond c (unless_vague bad m) M.Drop ≡ cond c m M.Drop
-      by true bad m h = ap (λ (x : Bool). unless_vague x m) (h refl)
-      by false bad m h = refl
-
--- in a job that opens nothing is asked of any number
-pub opened_never_8 : (lends : Bool) (l : List ℕ) (y : Layout) → open_job lends l ≡ ok y → (w : Plane) (a b : Point3) → crosses (side_of y.precision w a) (side_of y.precision w b) ≡ true → no_ratio w a b ≡ false
-opened_never_8 lends l y e w a b h = crossing_sure y.precision w a b (opened_sure lends l y e) h

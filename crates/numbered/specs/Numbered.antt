@@ -54,10 +54,6 @@ numbered_among (number r w) = w
 pub numbered_at : {A : Type 0} (k : ℕ) {n : ℕ} → T (leb 1 k) → T (leb k n) → Numbered {A = A} n (refuse k)
 numbered_at k {n} a b = number (refusal_of k) (among k n a b)
 
-pub numbered_more : {A : Type 0} {n m : ℕ} {o : Outcome A} → T (leb n m) → Numbered n o → Numbered m o
-numbered_more h (answer a) = answer a
-numbered_more {n = n} {m} h (number r w) = number r (among_more n m r h w)
-
 pub numbered_then : {A B : Type 0} {n : ℕ} {o : Outcome A} {f : A → Outcome B} → Numbered n o → ((a : A) → Numbered n (f a)) → Numbered n (then o f)
 numbered_then (answer a) h = h a
 numbered_then (number r w) h = number r w
@@ -94,7 +90,3 @@ pub judged_of : {A : Type 0} {n : ℕ} {o : Outcome A} → Numbered n o → Judg
 unfolding verdict_of
 judged_of (answer a) = fine
 judged_of (number r w) = ruled r w
-
-pub judged_more : {n m : ℕ} {v : Verdict} → T (leb n m) → Judged n v → Judged m v
-judged_more h fine = fine
-judged_more {n} {m} h (ruled r w) = ruled r (among_more n m r h w)

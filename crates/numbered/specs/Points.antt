@@ -1,5 +1,5 @@
 -- Planes: up to 5; near points, and the points of a cell, each once: up to 6; sides: up to 7; merged points: up to 14.
-use Rattle.std.specs.Prelude.{Bool, true, false, not, List, [], ◌∷◌, ℕ, suc, length, eqb, ltb, Float}
+use Rattle.std.specs.Prelude.{Bool, true, false, List, [], ◌∷◌, ℕ, suc, Float}
 use Rattle.refusal.specs.Outcome.{ok, refused}
 use Rattle.interval.specs.declared.Interval.{Interval}
 use Rattle.interval.specs.declared.Sign.{Sign}
@@ -18,10 +18,8 @@ use Rattle.side.specs.declared.Side.{Side}
 use Rattle.side.specs.declared.Side.TheVariants as D
 use Rattle.side.specs.Sides.{distance_of, is_positive, is_negative, within, first_of, classed, side_of, opposite_of}
 use Rattle.polygon.specs.Unique.{both, scan, keep_if, keep_one, unique}
-use Rattle.indexed.specs.declared.Pick.TheVariants.{Only}
-use Rattle.indexed.specs.Indexed.{Search, place_in, met, only_in, search_by, index_point, index_face, index_faces, indexed}
-use Rattle.merge.specs.Merge.{merge}
-use Rattle.numbered.specs.Numbered.{Among, among, Numbered, answer, number, numbered_more, numbered_then, numbered_unless, numbered_walk}
+use Rattle.indexed.specs.Indexed.{Search, place_in, index_point, index_face, index_faces, indexed}
+use Rattle.numbered.specs.Numbered.{Among, among, Numbered, answer, number, numbered_then, numbered_unless, numbered_walk}
 
 -- ---- planes
 
@@ -115,30 +113,14 @@ place_numbered t q i (r ∷ l) = by (near_of t q r) (near_numbered t q r) (place
     by C.Apart w h = h
     by (C.Refused x) w h = number x w
 
-met_numbered : (c : Closeness) (n h i : ℕ) → Close c → Numbered 13 (met c n h i)
-unfolding met
-met_numbered C.Near n h i w = numbered_unless (not (eqb h n)) 13 tt tt (answer i)
-met_numbered C.Apart n h i w = answer h
-met_numbered (C.Refused x) n h i w = numbered_more tt (number x w)
-
-only_numbered : (t : Precision) (q : Point3) (l : List Point3) → Numbered 13 (search_by Only t q l)
-unfolding search_by only_in
-only_numbered t q l = numbered_walk _ (λ h r. met_numbered (near_of t q r.it) (length l) h r.place (near_numbered t q r.it)) (length l) _
-
 module _ {n : ℕ} (find : Search) (h : (q : Point3) (l : List Point3) → Numbered n (find q l)) where
   face_numbered : (s : Solid) (f : Face) → Numbered n (index_face find s f)
   unfolding index_face index_point
   face_numbered s f = numbered_then (numbered_walk (index_point find) (λ p q. numbered_then (h q p.points) (λ i. answer _)) _ f.points) (λ r. answer _)
 
-  faces_numbered : (c : Cell) → Numbered n (index_faces find c)
+  pub faces_numbered : (c : Cell) → Numbered n (index_faces find c)
   faces_numbered c = numbered_walk (index_face find) face_numbered _ c
 
 pub indexed_numbered : (t : Precision) (c : Cell) → Numbered 6 (indexed t c)
 unfolding indexed
 indexed_numbered t c = faces_numbered (λ q l. place_in t q 0 l) (λ q l. place_numbered t q 0 l) c
-
-pub merge_numbered : (t : Precision) (c : Cell) → Numbered 14 (merge t c)
-unfolding merge
-merge_numbered t c =
-    numbered_then (numbered_more tt (faces_numbered (search_by Only t) (only_numbered t) c)) (λ s.
-    numbered_then (numbered_unless (ltb 4096 (length s.points)) 14 tt tt (answer _)) (λ _. answer s))

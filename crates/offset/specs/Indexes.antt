@@ -15,7 +15,7 @@ use Rattle.indexed.specs.declared.Counted.{Counted}
 use Rattle.indexed.specs.declared.Counted.TheVariants as C
 use Rattle.indexed.specs.Indexed.{Search, place_in, Places, placed, index_point, index_points, with_face, index_face, indexed}
 use Rattle.indexed.specs.Stored.{flat, Stored}
-use Rattle.indexed.specs.Laws.{joined_most}
+use Rattle.indexed.proofs.Laws.{joined_most}
 use Rattle.solids.specs.Frames.{faces_at, Placing}
 
 -- ---- how many there are

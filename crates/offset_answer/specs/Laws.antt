@@ -19,7 +19,7 @@ use Rattle.indexed.specs.declared.Counted.{Counted}
 use Rattle.indexed.specs.declared.Counted.TheVariants as C
 use Rattle.indexed.specs.Indexed.{indexed}
 use Rattle.indexed.specs.Stored.{flat, Stored, Fits}
-use Rattle.indexed.specs.Laws.{stored_points, stored_places, flat_corners}
+use Rattle.indexed.proofs.Laws.{stored_points, stored_places, flat_corners}
 use Rattle.solids.specs.Frames.{faces_at, Placing}
 use Rattle.offset.specs.Offsets.{offset_cell}
 use Rattle.offset.specs.Stored.{CellMoved, Ready}

@@ -8,14 +8,16 @@ use Rattle.refusal.specs.Outcome.{heard}
 use Rattle.refusal.specs.Laws.{never_fine}
 use Rattle.sums.specs.Sum.{Each}
 use Rattle.sums.specs.Keys.{pairs}
-use Rattle.sums.specs.KeyLaws.{each_map, each_imp, pairs_each, Sharing}
+use Rattle.sums.specs.KeyLaws.{Sharing}
+use Rattle.sums.proofs.KeyLaws.{each_map, each_imp, pairs_each}
 use Rattle.sums.specs.Components.{components}
 use Rattle.keys.specs.Rows.{Starts, rows}
 use Rattle.keys.specs.Each.{Keyed}
 use Rattle.groups.specs.Groups.{Grouped, Within, joins_of}
 use Rattle.groups.specs.Ends.{ends_of, joins_ends, within_ends}
 use Rattle.bodies.specs.Fusing.{Facet, cell_of, keys, check_facets, exterior, interfaces, materials}
-use Rattle.bodies.specs.ListLaws.{Valid, size}
+use Rattle.bodies.specs.ListLaws.{Valid}
+use Rattle.bodies.proofs.ListLaws.{size}
 use Rattle.interfaces.specs.declared.Met.{Met}
 use Rattle.interfaces.specs.Facets.{facets_of, many_facets, cell_at, keys_are}
 use Rattle.interfaces.specs.Meeting.{Met_all}

@@ -4,10 +4,11 @@ use Rattle.std.proofs.Common.{sym, ap, ap₂, ◌∙◌, subst, ⊎_elim, append
 use Rattle.std.proofs.lemmas.List.{map-append, length-map}
 use Rattle.std.proofs.Math.Decide.{dec_lt}
 use Rattle.sums.specs.Sum.{sum, sum_one, hit, hit_cases, Each}
-use Rattle.sums.specs.KeyLaws.{full_zero, all_each, each_get_d, graph_of}
-use Rattle.sums.specs.CountLaws.{ones}
+use Rattle.sums.proofs.KeyLaws.{full_zero, all_each, each_get_d, graph_of}
+use Rattle.sums.proofs.CountLaws.{ones}
 use Rattle.sums.specs.Components.{components}
-use Rattle.sums.specs.ComponentLaws.{Components, components_found}
+use Rattle.sums.specs.ComponentLaws.{Components}
+use Rattle.sums.proofs.ComponentLaws.{components_found}
 use Rattle.groups.specs.Chain.{pairs_of}
 use Rattle.groups.specs.Groups.{joined, bounds, Grouped, Within, joins_of, sum_joined}
 

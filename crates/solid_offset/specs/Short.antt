@@ -10,14 +10,14 @@ use Rattle.space.specs.Shapes.{Cell, Solid, corners}
 use Rattle.room.specs.Rooms.{cell_counts}
 use Rattle.room.specs.Laws.{length_cell_counts}
 use Rattle.indexed.specs.Stored.{flat}
-use Rattle.indexed.specs.Laws.{flat_corners}
+use Rattle.indexed.proofs.Laws.{flat_corners}
 use Rattle.words.specs.Little.{digits}
 use Rattle.offset.specs.Offsets.{offset_cell}
 use Rattle.offset.specs.Indexes.{corners_same, indexed_few, indexed_counts}
 use Rattle.offset.specs.Theorem.{offset_counts}
 use Rattle.hollow.specs.Hollows.{hollow_in}
 use Rattle.solid_check.specs.Check.{cell_of}
-use Rattle.solid_check.specs.Laws.{check_passed, check_counted}
+use Rattle.solid_check.proofs.Laws.{check_passed, check_counted}
 use Rattle.built.specs.Built.{built}
 use Rattle.answer.specs.Answers.{solid_answer, shell_answer}
 use Rattle.answer.specs.Laws.{length_count, solid_size}

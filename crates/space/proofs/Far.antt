@@ -16,7 +16,8 @@ use Rattle.float.proofs.Sums.{add_left, add_right}
 use Rattle.float.proofs.Products.{mul_both, product, square_real, square_rises, square_falls}
 use Rattle.interval.specs.declared.Interval.{Interval}
 use Rattle.interval.specs.Ends.{zero, point_i, sub_i, holds_zero, sqr_i}
-use Rattle.interval.proofs.Laws.{Ordered, stepped, sqr_ordered, square_low, square_floor, low_positive, high_negative, positive_apart, negative_apart}
+use Rattle.interval.proofs.Laws.{Ordered, stepped, sqr_ordered, low_positive, high_negative, positive_apart, negative_apart}
+use Rattle.interval.proofs.Squares.{square_low, square_floor}
 use Rattle.interval.proofs.Inclusion.{Inside, inside_self, add_inside, sub_inside}
 use Rattle.space.specs.declared.Point3.{Point3}
 use Rattle.space.specs.declared.Precision.{Precision}

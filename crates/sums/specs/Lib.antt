@@ -5,6 +5,5 @@ pub mod OrderLaws
 pub mod Components
 pub mod ComponentLaws
 pub mod MeetLaws
-pub mod CountLaws
 pub mod RunLaws
 pub mod SizeLaws

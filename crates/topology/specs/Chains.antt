@@ -13,9 +13,10 @@ use Rattle.lists.specs.Walks.{all}
 use Rattle.room.specs.Rooms.{In}
 use Rattle.sums.specs.Sum.{sum, hit, hit_cases, hit_same, occ, pick, ◌∈◌, Each, here, some_of}
 use Rattle.sums.specs.Keys.{nbr, nbrs}
-use Rattle.sums.specs.KeyLaws.{occ_nbr, pick_both, full_hit, full_find, graph_of}
+use Rattle.sums.proofs.KeyLaws.{occ_nbr, pick_both, full_hit, full_find, graph_of}
 use Rattle.sums.specs.Components.{components}
-use Rattle.sums.specs.ComponentLaws.{Reach, Graph, Components, components_found}
+use Rattle.sums.specs.ComponentLaws.{Reach, Graph, Components}
+use Rattle.sums.proofs.ComponentLaws.{components_found}
 use Rattle.groups.specs.Chain.{pairs_of}
 use Rattle.groups.specs.Groups.{joins_of}
 use Rattle.topology.specs.Topology.{Corner, corners_of, count, is_point, is_edge, once, fits, face_with, across, joins, connected}

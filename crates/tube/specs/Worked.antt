@@ -7,7 +7,6 @@ use Rattle.std.specs.Float.Ieee.{fits, is_nan, lt, le, eq, add, sub, mul, div, n
 use Rattle.refusal.specs.Outcome.{refusal_of}
 use Rattle.float.specs.Float.{next_up, next_down, next_bits}
 use Rattle.float.specs.Exact.{plus, minus}
-use Rattle.float.proofs.Laws.{Held}
 use Rattle.interval.specs.Ends.{outward, add_i, sub_i, hull_of, mul_i, holds_zero, square_of, sqr_i, sign_of}
 use Rattle.interval.specs.Box.{dot_i, difference_i}
 use Rattle.space.specs.declared.Point3.{Point3}
@@ -20,7 +19,6 @@ use Rattle.side.specs.declared.Side.TheVariants.{Positive, Negative, Zero, Refus
 use Rattle.side.specs.Sides.{distance_of, classed, side_of}
 use Rattle.tube.specs.Whole.{nought, units, opposite}
 use Rattle.tube.specs.Distance.{distance, reach, Outside, Inside, On, square, squared_distance, Nearer, Farther}
-use Rattle.tube.specs.Tube.{Given, Tube, tube}
 
 abbrev none : Float
 none = fin false 0 (pos 0)
@@ -113,7 +111,7 @@ unfoldable opened : Unit {0}
 unfolding side_of classed distance_of dot_i difference_i box_of near_of closeness_of gap_i add_i sub_i mul_i sqr_i outward hull_of square_of holds_zero sign_of
 opened = tt
 
-unfoldable rounded : Unit {0}
+unfoldable pub rounded : Unit {0}
 unfolding opened next_up next_down next_bits add sub mul neg lt le eq is_nan fits to_bits of_bits
 rounded = tt
 
@@ -182,23 +180,3 @@ dip_stored = refl
 pub dip_length : (squared_distance dip (at none)).more ≡ (squared_distance dip (at none)).less + (2 ^ 2148 + 3602879701896397 * 2 ^ 2042)
 unfolding squared_distance
 dip_length = refl
-
--- ---- what the theorem asks holds of them
-module _ (d : Float) (h : Held d) where
-  given : Given tol wall (at d)
-  unfolding fits
-  given = record {
-    local_held = tt;
-    local_finite = tt;
-    point = record { x_held = h; y_held = tt; z_held = tt };
-    from = record { x_held = tt; y_held = tt; z_held = tt };
-    normal = record { x_held = tt; y_held = tt; z_held = tt };
-  }
-
-pub p1_tube : Tube tol wall (at half)
-unfolding rounded
-p1_tube = tube tol wall (at half) (given half tt) (record { lo_finite = tt; hi_finite = tt })
-
-pub p3_tube : Tube tol wall (at twice)
-unfolding rounded
-p3_tube = tube tol wall (at twice) (given twice tt) (record { lo_finite = tt; hi_finite = tt })

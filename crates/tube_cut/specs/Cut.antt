@@ -30,7 +30,8 @@ use Rattle.clip.specs.Cuts.{sign_face, signs_of, clip_by, clip}
 use Rattle.clip.specs.Theorem.{Corners, Fair, Closed, cut_closed, is_certain, Classified, cut_nothing, part_of}
 use Rattle.tube.specs.Whole.{Whole, units, opposite, finer, Below, NotAbove}
 use Rattle.tube.specs.Distance.{distance, Outside, Inside, NotOutside, NotInside, On}
-use Rattle.tube.specs.Tube.{Held3, Given, outside, inside, on}
+use Rattle.tube.specs.Tube.{Held3, Given}
+use Rattle.tube.proofs.Tube.{outside, inside, on}
 
 -- ---- A CUT of the cell c by the plane w that leaves the cell d: distance is the dot with the normal as it is stored
 pub record Cut (t : Precision) (w : Plane) (c d : Cell) : Type 0 where

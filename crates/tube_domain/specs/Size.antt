@@ -1,15 +1,14 @@
 -- Sizes by powers of two: at most 2 ^ k, of numbers, of points and of the ends of intervals. Assumes nothing.
 use Rattle.std.specs.Prelude.{◌≡◌, refl, ℕ, ◌+◌, ◌*◌, ◌^◌, ◌≤◌, ◌<◌, Float}
-use Rattle.std.proofs.Common.{sym, ap, ◌∙◌, subst, le_of_eq, lt_of_lt_of_le, one-mul, arith, pow_pos, pow_mono, pow-add, shl_lt}
+use Rattle.std.proofs.Common.{sym, ap, ◌∙◌, le_of_eq, lt_of_lt_of_le, one-mul, arith, pow_pos, pow_mono, pow-add, shl_lt}
 use Rattle.std.proofs.Math.Pow.{pow-lt}
-use Rattle.std.specs.Float.{binary64}
-use Rattle.std.specs.Float.Ieee.{neg, add, sub, mul}
+use Rattle.std.specs.Float.Ieee.{neg}
 use Rattle.interval.specs.declared.Interval.{Interval}
-use Rattle.interval.specs.Ends.{zero, point_i, add_i, sub_i, mul_i, sqr_i}
+use Rattle.interval.specs.Ends.{zero, point_i}
 use Rattle.interval.specs.Exact.{Bounded, Finite}
 use Rattle.space.specs.declared.Point3.{Point3}
-use Rattle.tube_domain.specs.Within.{Within, Grid, within_more, within_neg, add_within, sub_within, mul_within}
-use Rattle.tube_domain.specs.Spans.{Spans, zero_within, spans_more, spans_finite, add_spans, sub_spans, mul_spans, sqr_spans}
+use Rattle.tube_domain.specs.Within.{Within, Grid, within_more, within_neg}
+use Rattle.tube_domain.specs.Spans.{Spans, zero_within, spans_more, spans_finite}
 
 -- ---- 2 ^ j units are a value of the format
 pub pow_grid : (j : ℕ) → j < 2098 → Grid (2 ^ j)
@@ -47,11 +46,7 @@ pub multiple_grid : (q k : ℕ) → q < 2 ^ 53 → k < 971 → Grid (q * power k
 unfolding power
 multiple_grid q k h K = record { digits = q; shift = k + 1074; few = h; under = lt_of_lt_of_le (shl_lt 53 (k + 1074) h) (pow_mono {i = 53 + (k + 1074)} {j = 2098} (omega arith)); is = refl }
 
--- below its double
-power_less : (k : ℕ) → power k < power (k + 1)
-power_less k = let e = power_next k in let p = power_pos k in omega arith
-
-twice_power : (k : ℕ) → power k + power k ≤ power (k + 1)
+pub twice_power : (k : ℕ) → power k + power k ≤ power (k + 1)
 twice_power k = le_of_eq (sym (power_next k))
 
 -- ---- numbers
@@ -66,16 +61,6 @@ zero_size {k} = record { within = zero_within (power k) }
 
 pub size_neg : {k : ℕ} {x : Float} → Size k x → Size k (neg x)
 size_neg s = record { within = within_neg s.within }
-
-module _ {k : ℕ} {x y : Float} (K : k + 1 < 1024) (s : Size k x) (t : Size k y) where
-  pub add_size : Size (k + 1) (add binary64 x y)
-  add_size = record { within = add_within (power_grid (k + 1) K) (twice_power k) s.within t.within }
-
-  pub sub_size : Size (k + 1) (sub binary64 x y)
-  sub_size = record { within = sub_within (power_grid (k + 1) K) (twice_power k) s.within t.within }
-
-pub mul_size : {i j : ℕ} {x y : Float} → i + j < 1024 → Size i x → Size j y → Size (i + j) (mul binary64 x y)
-mul_size {i} {j} K s t = record { within = mul_within (power_grid (i + j) K) (le_of_eq (power_times i j)) s.within t.within }
 
 pub record Size3 (k : ℕ) (p : Point3) : Type 0 where
   pub x_size : Size k p.x
@@ -97,27 +82,3 @@ ends_bounded e = (ends_finite e).bounded
 
 pub point_most : {k : ℕ} {x : Float} → Size k x → Ends k (point_i x)
 point_most s = record { spans = record { low = s.within; high = s.within } }
-
--- a sum and a difference: twice as large, and a step
-module _ {k : ℕ} {a b : Interval} (K : k + 2 < 1024) (e : Ends k a) (f : Ends k b) where
-  first : Grid (power (k + 1))
-  first = power_grid (k + 1) (omega arith)
-
-  second : Grid (power (k + 1 + 1))
-  second = power_grid (k + 1 + 1) (omega arith)
-
-  last : (c : Interval) → Spans (power (k + 1 + 1)) c → Ends (k + 2) c
-  last c s = record { spans = subst (λ (n : ℕ). Spans (power n) c) (omega arith) s }
-
-  pub add_most : Ends (k + 2) (add_i a b)
-  add_most = last (add_i a b) (add_spans second (power_less (k + 1)) first e.spans f.spans (twice_power k))
-
-  pub sub_most : Ends (k + 2) (sub_i a b)
-  sub_most = last (sub_i a b) (sub_spans second (power_less (k + 1)) first e.spans f.spans (twice_power k))
-
--- a product and a square: the product of the sizes, and a step
-pub mul_most : {i j : ℕ} {a b : Interval} → i + j + 1 < 1024 → Ends i a → Ends j b → Ends (i + j + 1) (mul_i a b)
-mul_most {i} {j} K e f = record { spans = mul_spans (power_grid (i + j + 1) K) (power_less (i + j)) (power_grid (i + j) (omega arith)) e.spans f.spans (le_of_eq (power_times i j)) }
-
-pub sqr_most : {k : ℕ} {a : Interval} → k + k + 1 < 1024 → Ends k a → Ends (k + k + 1) (sqr_i a)
-sqr_most {k} K e = record { spans = sqr_spans (power_grid (k + k + 1) K) (power_less (k + k)) (power_grid (k + k) (omega arith)) e.spans (le_of_eq (power_times k k)) }

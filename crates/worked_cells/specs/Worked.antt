@@ -22,7 +22,7 @@ use Rattle.solids.specs.Frames.{plane_for, framed_all, sides_by, sides_all}
 use Rattle.solids.specs.Order.{fair_all, shaped}
 use Rattle.topology.specs.Topology.{corners_of, count, fits, used_all, face_with, joins, connected, rounded, sound_by, sound}
 use Rattle.solid_check.specs.Check.{check, after, cell_of, framed}
-use Rattle.solid_check.specs.Laws.{cell_framed}
+use Rattle.solid_check.proofs.Laws.{cell_framed}
 use Rattle.built.specs.Built.{built}
 use Rattle.finish.specs.Finish.{finish}
 use Rattle.worked.specs.Open.{open_space, open_side, open_cut, open_indexed}

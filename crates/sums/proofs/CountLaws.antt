@@ -6,7 +6,8 @@ use mathlib.Core.List.{List, [], ◌∷◌, head-eq_of_cons-eq}
 use Rattle.std.proofs.Math.ListN.{length}
 use Rattle.sums.specs.Sum.{sum, sum_one, hit, hit_cases, hit_same, pick, full, Each, none, here, cases_in}
 use Rattle.sums.specs.Keys.{key, order, users, lone, led, pairs}
-use Rattle.sums.specs.KeyLaws.{sum_flat, sum_order, sum_lone, full_add, full_ext, full_zero, full_hit, full_only, each_imp, Sharing, pairs_each, users_all, users_has, users_key, users_le}
+use Rattle.sums.specs.KeyLaws.{Sharing}
+use Rattle.sums.proofs.KeyLaws.{sum_flat, sum_order, sum_lone, full_add, full_ext, full_zero, full_hit, full_only, each_imp, pairs_each, users_all, users_has, users_key, users_le}
 use Rattle.sums.specs.MeetLaws.{Two}
 
 -- a sum of sums, the other way round

@@ -17,7 +17,8 @@ use Rattle.shift.specs.Shifts.{missed, moved_to, flat, moved_by, moved_at, moved
 use Rattle.bounds.specs.Bounds.{not_above, well_below, judged, point_in, points_in, against}
 use Rattle.offset.specs.Offsets.{Moving, move_points, move_face, not_crossed, move_all, offset_distances, offset_cell}
 use Rattle.hollow.specs.Hollows.{reversed_face, room_for, hollow_room, hollow_of, hollow_in}
-use Rattle.numbered.specs.Numbered.{Numbered, answer, Judged, fine, ruled, among_more, numbered_more, numbered_then, numbered_unless, numbered_each, numbered_heard, judged_at}
+use Rattle.numbered.specs.Numbered.{Numbered, answer, Judged, fine, ruled, among_more, numbered_then, numbered_unless, numbered_each, numbered_heard, judged_at}
+use Rattle.numbered.proofs.Numbered.{numbered_more}
 use Rattle.numbered.specs.Points.{plane_numbered, opposite_numbered, Sided, side_numbered, indexed_numbered}
 use Rattle.numbered.specs.Solids.{judged_each}
 

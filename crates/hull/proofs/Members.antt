@@ -14,7 +14,7 @@ use Rattle.space.specs.declared.Plane.{Plane}
 use Rattle.polygon.specs.Unique.{unique}
 use Rattle.polygon.specs.Members.{All, all_append, unique_all}
 use Rattle.hull.specs.Hull.{Flat, flat_on, before_flat, insert_flat, sort_flat, turn, chain_one, chain, half, ringed, chains, hull_on, hull, cap_of}
-use Rattle.hull.specs.Laws.{insert_on, insert_here, chain_left, chain_right, chain_straight, chain_none, cap_hull}
+use Rattle.hull.proofs.Laws.{insert_on, insert_here, chain_left, chain_right, chain_straight, chain_none, cap_hull}
 
 either : (b : Bool) → (b ≡ true) ⊎ (b ≡ false)
 either true = inl refl

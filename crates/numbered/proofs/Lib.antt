@@ -1,0 +1,10 @@
+pub mod Calls
+pub mod Told
+pub mod Cuts
+pub mod Fusing
+pub mod Mesh
+pub mod Moves
+pub mod Never
+pub mod Numbered
+pub mod Points
+pub mod Solids

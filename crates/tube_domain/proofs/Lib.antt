@@ -1,0 +1,11 @@
+pub mod Checked
+pub mod Points
+pub mod Domain
+pub mod Tube
+pub mod Length
+pub mod Longer
+pub mod Normal
+pub mod Read
+pub mod Size
+pub mod Spans
+pub mod Volume
