@@ -3,7 +3,7 @@
 
 Run once, with no arguments, at the top of the repository. A second run changes nothing.
 Names of the kit's libraries, generated names, Rust names and strings keep their spelling.
-Writes the names that it changed to /tmp/names-map.tsv and tools/port_names.tsv, what it left to /tmp/names-said.txt.
+Writes the names that it changed to tools/port_names.tsv, and says what it left. With --dry it writes nothing.
 """
 import collections
 import os
@@ -579,14 +579,10 @@ def main():
             if '--dry' not in sys.argv:
                 with open(p, 'w', encoding='utf-8', newline='') as h:
                     h.write(t)
-    with open('/tmp/names-said.txt', 'w') as h:
-        h.write('\n'.join(SAID) + '\n')
-    if lines:
-        with open('/tmp/names-map.tsv', 'w') as h:
+    print('\n'.join(SAID))
+    if lines and '--dry' not in sys.argv:
+        with open('tools/port_names.tsv', 'w') as h:
             h.write('\n'.join(lines) + '\n')
-        if '--dry' not in sys.argv and os.path.getsize('/tmp/names-map.tsv') < 400000:
-            with open('tools/port_names.tsv', 'w') as h:
-                h.write('\n'.join(lines) + '\n')
     print('%d names, %d files, %d clashes' % (len(lines), changed, len(clash)))
 
 
