@@ -1,5 +1,5 @@
 -- The bytes of answers, little-endian: solids by points and faces, and shells by facets. Definitions only.
-use Rattle.std.specs.Prelude.{ℕ, List, [], ◌∷◌, ◌++◌, length}
+use Rattle.std.specs.Prelude.{ℕ, List, ◌∷◌, ◌++◌, length}
 use Rattle.space.specs.declared.Plane.{Plane}
 use Rattle.space.specs.Shapes.{Face, Solid}
 use Rattle.words.specs.Little.{digits}

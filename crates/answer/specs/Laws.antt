@@ -9,7 +9,7 @@ use Rattle.space.specs.declared.Plane.{Plane}
 use Rattle.space.specs.Shapes.{Face, Cell, Solid}
 use Rattle.words.specs.Little.{digits, float_bytes}
 use Rattle.words.specs.Laws.{length_digits, length_float}
-use Rattle.polygon.specs.Memory.{point_at, points_at}
+use Rattle.polygon.specs.Memory.{points_at}
 use Rattle.polygon.specs.MemoryLaws.{length_points_at}
 use Rattle.room.specs.Rooms.{counts_at, plane_at, face_at, cell_at, Within}
 use Rattle.room.specs.Laws.{sets_append, next_count, counts_done, cell_next, cell_none, within_rest, within_le, cell_faces}

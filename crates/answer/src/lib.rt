@@ -15,15 +15,14 @@ ghost use Rattle.answer.specs.Answers.{face_answer, solid_answer, plane_bytes, f
 use space::{Plane, Point3};
 
 // n indices that stand from k on.
+#[tactic(auto, using(writer::specs::Rows::numbers_start, writer::specs::Rows::numbers_end))]
 fn put_places(places: &[u64], k: usize, n: usize, out: &mut [u8], at: usize)
     requires { (k + n ≤ length places.now) × (at + 4 * n ≤ length out.old) }
     ensures { out.new ≡ sets out.old at (row (digits 4) (counts_at places.now k n)) }
 {
-    let mut i = 0;
-    while i < n {
+    for i in 0..n {
         let x = places[k + i];
         words::put_count(out, at + 4 * i, x);
-        i += 1;
     }
 }
 
@@ -44,13 +43,11 @@ fn put_faces(places: &[u64], counts: &[u64], n: usize, out: &mut [u8], at: usize
 {
     let mut k = 0;
     let mut o = at;
-    let mut j = 0;
-    while j < n {
+    for j in 0..n {
         let c = counts[j] as usize;
         put_face(places, k, c, out, o);
         k += c;
         o += 4 + 4 * c;
-        j += 1;
     }
     o
 }
@@ -65,15 +62,14 @@ pub fn put_point(out: &mut [u8], at: usize, p: Point3)
 }
 
 // m points that stand in a slice from a place on.
+#[tactic(auto, using(writer::specs::Rows::points_start, writer::specs::Rows::points_end))]
 fn put_points(s: &[f64], from: usize, m: usize, out: &mut [u8], at: usize)
     requires { (from + 3 * m ≤ length s.now) × (at + 24 * m ≤ length out.old) }
     ensures { out.new ≡ sets out.old at (row point_bytes (points_at s.now from m)) }
 {
-    let mut i = 0;
-    while i < m {
+    for i in 0..m {
         let q = polygon::get_point(s, from + 3 * i);
         put_point(out, at + 24 * i, q);
-        i += 1;
     }
 }
 
@@ -139,13 +135,11 @@ fn put_facets(
 {
     let mut o = from;
     let mut p = at;
-    let mut i = 0;
-    while i < faces {
+    for i in 0..faces {
         let n = sizes[j + i] as usize;
         put_facet(s, o, n, out, p);
         o += room::PLANE + 3 * n;
         p += 100 + 24 * n;
-        i += 1;
     }
     p
 }

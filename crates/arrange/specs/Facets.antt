@@ -1,10 +1,8 @@
 -- How the facets of an arrangement lie in lent slices. Definitions only.
-use Rattle.std.specs.Prelude.{◌≡◌, ℕ, ◌+◌, ◌*◌, ◌≤◌, List, [], ◌∷◌, map, length, Float}
+use Rattle.std.specs.Prelude.{◌≡◌, ℕ, ◌+◌, ◌*◌, ◌≤◌, List, [], ◌∷◌, map, length, Float, Ok, Err}
 use Rattle.std.proofs.lemmas.List.Edits.{sets}
-use Rattle.refusal.specs.Outcome.{Outcome, ok, refused}
+use Rattle.refusal.specs.Outcome.{Outcome}
 use Rattle.room.specs.Rooms.{counts_at}
-use Rattle.indexed.specs.declared.Counted.{Counted}
-use Rattle.indexed.specs.declared.Counted.TheVariants.{Made, Refused}
 use Rattle.indexed.specs.Stored.{flat}
 use Rattle.inside.specs.Slices.{Same, Roomy}
 use Rattle.conform.specs.Cycles.{Among}
@@ -25,6 +23,6 @@ pub record Given (limit : ℕ) (s : List Float) (n : ℕ) (l counts : List ℕ) 
   pub lent : Roomy n a b k
 
 -- the new cycles, one behind another, and their lengths; a refusal leaves the lengths of the slices alone
-unfoldable pub Arranged : Outcome (List (List ℕ)) → List Float → List Float → List ℕ → List ℕ → List ℕ → List Float → List Float → List ℕ → List ℕ → List ℕ → Counted → Type 0
-Arranged (ok fs) a₀ b₀ k₀ o₀ z₀ a b k o z r = (r ≡ Made (length (flat fs))) × (o ≡ sets o₀ 0 (flat fs)) × (z ≡ sets z₀ 0 (map length fs)) × Same a₀ b₀ k₀ a b k
-Arranged (refused x) a₀ b₀ k₀ o₀ z₀ a b k o z r = (r ≡ Refused x) × (length o ≡ length o₀) × (length z ≡ length z₀) × Same a₀ b₀ k₀ a b k
+unfoldable pub Arranged : Outcome (List (List ℕ)) → List Float → List Float → List ℕ → List ℕ → List ℕ → List Float → List Float → List ℕ → List ℕ → List ℕ → Outcome ℕ → Type 0
+Arranged (Ok fs) a₀ b₀ k₀ o₀ z₀ a b k o z r = (r ≡ Ok (length (flat fs))) × (o ≡ sets o₀ 0 (flat fs)) × (z ≡ sets z₀ 0 (map length fs)) × Same a₀ b₀ k₀ a b k
+Arranged (Err x) a₀ b₀ k₀ o₀ z₀ a b k o z r = (r ≡ Err x) × (length o ≡ length o₀) × (length z ≡ length z₀) × Same a₀ b₀ k₀ a b k

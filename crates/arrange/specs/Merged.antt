@@ -1,16 +1,15 @@
 -- What merging gives is what `conform_all` takes: each place is one of the points, and the places in a slice are the faces.
-use Rattle.std.specs.Prelude.{◌≡◌, refl, Bool, true, false, not, List, [], ◌∷◌, ◌++◌, map, ℕ, zero, suc, ◌+◌, ◌≤◌, ◌<◌, length, take, drop, get_or, eqb, ltb}
+use Rattle.std.specs.Prelude.{◌≡◌, refl, Bool, true, false, not, List, [], ◌∷◌, ◌++◌, map, ℕ, zero, suc, ◌+◌, ◌≤◌, ◌<◌, length, take, drop, get_or, eqb, ltb, Ok, Err}
 use Rattle.std.proofs.Common.{sym, ap, ◌∙◌, subst, append_assoc, append-nil, arith, not-suc-le-zero, le_of_suc-le-suc, ltb-false, length-append, get_or-drop}
 use Rattle.std.proofs.lemmas.List.Edits.{sets, sets-eq}
 use Rattle.std.proofs.Math.Seq.{take-append_seam, drop-append_seam}
-use Rattle.refusal.specs.declared.Refusal.{Refusal}
-use Rattle.refusal.specs.Outcome.{ok, then, unless, walk}
+use Rattle.refusal.specs.Outcome.{Outcome, then, unless, walk}
 use Rattle.refusal.specs.Laws.{same_ok, then_ok}
 use Rattle.lists.specs.Walks.{numbered}
 use Rattle.space.specs.declared.Point3.{Point3}
 use Rattle.space.specs.declared.Precision.{Precision}
 use Rattle.space.specs.declared.Closeness.{Closeness}
-use Rattle.space.specs.declared.Closeness.TheVariants.{Near, Apart, Refused}
+use Rattle.space.specs.declared.Closeness.TheVariants.{Near, Apart}
 use Rattle.space.specs.Near.{near_of}
 use Rattle.space.specs.Shapes.{Face, Cell, Solid}
 use Rattle.polygon.specs.Members.{All}
@@ -32,30 +31,30 @@ Below n l = All (λ k. k < n) l
 
 -- ---- a search gives a point's place, or the place after the last
 
-once : (b : Bool) (i j : ℕ) → unless b 13 (ok i) ≡ ok j → i ≡ j
+once : (b : Bool) (i j : ℕ) → unless b 13 (Ok i) ≡ Ok j → i ≡ j
 once true i j e = absurd (let z : ◌≡◌ {A = ℕ} 0 1 = cc in omega arith)
 once false i j e = same_ok e
 
-met_low : (c : Closeness) (n h i j : ℕ) → met c n h i ≡ ok j → h ≤ n → i ≤ n → j ≤ n
+met_low : (c : Outcome Closeness) (n h i j : ℕ) → met c n h i ≡ Ok j → h ≤ n → i ≤ n → j ≤ n
 unfolding met
-met_low Near n h i j e a b = (let d = once (not (eqb h n)) i j e in omega (arith, d))
-met_low Apart n h i j e a b = (let d = same_ok e in omega (arith, d))
-met_low (Refused x) n h i j e a b = absurd (let z : ◌≡◌ {A = ℕ} 0 1 = cc in omega arith)
+met_low (Ok Near) n h i j e a b = (let d = once (not (eqb h n)) i j e in omega (arith, d))
+met_low (Ok Apart) n h i j e a b = (let d = same_ok e in omega (arith, d))
+met_low (Err x) n h i j e a b = absurd (let z : ◌≡◌ {A = ℕ} 0 1 = cc in omega arith)
 
-walk_low : (t : Precision) (q : Point3) (n : ℕ) (l : List Point3) (k h j : ℕ) → walk (λ h r. met (near_of t q r.it) n h r.place) h (numbered k l) ≡ ok j → h ≤ n → k + length l ≤ n → j ≤ n
+walk_low : (t : Precision) (q : Point3) (n : ℕ) (l : List Point3) (k h j : ℕ) → walk (λ h r. met (near_of t q r.it) n h r.place) h (numbered k l) ≡ Ok j → h ≤ n → k + length l ≤ n → j ≤ n
 unfolding walk numbered
 walk_low t q n [] k h j e a b = (let d = same_ok e in omega (arith, d))
 walk_low t q n (p ∷ l) k h j e a b =
     let z = then_ok (met (near_of t q p) n h k) _ j e in
     walk_low t q n l (suc k) z.0 j z.2 (met_low (near_of t q p) n h k z.0 z.1 a (omega arith)) (omega arith)
 
-only_low : (t : Precision) (q : Point3) (l : List Point3) (j : ℕ) → search_by Only t q l ≡ ok j → j ≤ length l
+only_low : (t : Precision) (q : Point3) (l : List Point3) (j : ℕ) → search_by Only t q l ≡ Ok j → j ≤ length l
 unfolding search_by only_in
 only_low t q l j e = walk_low t q (length l) l 0 (length l) j e (omega arith) (omega arith)
 
 -- ---- the corners of a face
 
-point_below : (t : Precision) (s s' : Places) (q : Point3) → index_point (search_by Only t) s q ≡ ok s' → Below (length s.points) s.places →
+point_below : (t : Precision) (s s' : Places) (q : Point3) → index_point (search_by Only t) s q ≡ Ok s' → Below (length s.points) s.places →
     (length s.points ≤ length s'.points) × Below (length s'.points) s'.places × (length s'.places ≡ length s.places + 1)
 unfolding index_point
 point_below t s s' q e a =
@@ -66,7 +65,7 @@ point_below t s s' q e a =
     subst (λ x. (length s.points ≤ length x.points) × Below (length x.points) x.places × (length x.places ≡ length s.places + 1)) w
     (m.0, all_snoc _ s.places i (all_map _ _ s.places (λ k h. omega (arith, m.0)) a) m.1, length-append s.places (i ∷ []))
 
-points_below : (t : Precision) (l : List Point3) (s s' : Places) → walk (index_point (search_by Only t)) s l ≡ ok s' → Below (length s.points) s.places →
+points_below : (t : Precision) (l : List Point3) (s s' : Places) → walk (index_point (search_by Only t)) s l ≡ Ok s' → Below (length s.points) s.places →
     (length s.points ≤ length s'.points) × Below (length s'.points) s'.places × (length s'.places ≡ length s.places + length l)
 unfolding walk
 points_below t [] s s' e a = subst (λ x. (length s.points ≤ length x.points) × Below (length x.points) x.places × (length x.places ≡ length s.places + length {A = Point3} [])) (same_ok e) (omega arith, a, omega arith)
@@ -78,7 +77,7 @@ points_below t (q ∷ l) s s' e a =
 
 -- ---- the faces
 
-face_below : (t : Precision) (s s' : Solid) (f : Face) → index_face (search_by Only t) s f ≡ ok s' → All (Below (length s.points)) s.faces →
+face_below : (t : Precision) (s s' : Solid) (f : Face) → index_face (search_by Only t) s f ≡ Ok s' → All (Below (length s.points)) s.faces →
     All (Below (length s'.points)) s'.faces × (map length s'.faces ≡ map length s.faces ++ (length f.points ∷ []))
 unfolding index_face
 face_below t s s' f e a =
@@ -90,7 +89,7 @@ face_below t s s' f e a =
     subst (λ x. All (Below (length x.points)) x.faces × (map length x.faces ≡ map length s.faces ++ (length f.points ∷ []))) w
     (all_snoc _ s.faces r.places (all_map _ _ s.faces (λ g h. all_map _ _ g (λ k y. omega (arith, u.0)) h) a) u.1, map_snoc s.faces r.places ∙ ap (λ y. map length s.faces ++ (y ∷ [])) n)
 
-faces_below : (t : Precision) (c : Cell) (s s' : Solid) → walk (index_face (search_by Only t)) s c ≡ ok s' → All (Below (length s.points)) s.faces →
+faces_below : (t : Precision) (c : Cell) (s s' : Solid) → walk (index_face (search_by Only t)) s c ≡ Ok s' → All (Below (length s.points)) s.faces →
     All (Below (length s'.points)) s'.faces × (map length s'.faces ≡ map length s.faces ++ cell_counts c)
 unfolding walk cell_counts
 faces_below t [] s s' e a = subst (λ x. All (Below (length x.points)) x.faces × (map length x.faces ≡ map length s.faces ++ [])) (same_ok e) (a, sym (append-nil (map length s.faces)))
@@ -100,12 +99,12 @@ faces_below t (f ∷ c) s s' e a =
     let v = faces_below t c z.0 s' z.2 u.0 in
     (v.0, v.1 ∙ ap (λ y. y ++ cell_counts c) u.1 ∙ append_assoc (map length s.faces) (length f.points ∷ []) (cell_counts c))
 
-few : (b : Bool) (s s' : Solid) → then (unless b 14 (ok (length s.points))) (λ _. ok s) ≡ ok s' → (b ≡ false) × (s ≡ s')
+few : (b : Bool) (s s' : Solid) → then (unless b 14 (Ok (length s.points))) (λ _. Ok s) ≡ Ok s' → (b ≡ false) × (s ≡ s')
 few true s s' e = absurd (let z : ◌≡◌ {A = ℕ} 0 1 = cc in omega arith)
 few false s s' e = (refl, same_ok e)
 
 -- each place is one of the points, of which there are at most 4,096, and the faces have their corners
-pub merge_below : (t : Precision) (c : Cell) (s : Solid) → merge t c ≡ ok s → All (Below (length s.points)) s.faces × (map length s.faces ≡ cell_counts c) × (length s.points ≤ 4096)
+pub merge_below : (t : Precision) (c : Cell) (s : Solid) → merge t c ≡ Ok s → All (Below (length s.points)) s.faces × (map length s.faces ≡ cell_counts c) × (length s.points ≤ 4096)
 unfolding merge
 merge_below t c s e =
     let z = then_ok (index_faces (search_by Only t) c) _ s e in
@@ -165,7 +164,7 @@ small_faces [] a = tt
 small_faces (f ∷ fs) a = (a.0, small_faces fs a.1)
 
 -- the places that merging stored are the faces, and what `conform_all` asks of them holds
-pub merged_cycles : (t : Precision) (c : Cell) (s : Solid) (k₀ k : List ℕ) → merge t c ≡ ok s → Small c → k ≡ sets k₀ 0 (flat s.faces) → length (flat s.faces) ≤ length k₀ →
+pub merged_cycles : (t : Precision) (c : Cell) (s : Solid) (k₀ k : List ℕ) → merge t c ≡ Ok s → Small c → k ≡ sets k₀ 0 (flat s.faces) → length (flat s.faces) ≤ length k₀ →
     Cycles (length s.points) k 0 (cell_counts c) × (faces_at k 0 (cell_counts c) ≡ s.faces)
 merged_cycles t c s k₀ k e small g h =
     let z = merge_below t c s e in

@@ -1,16 +1,13 @@
 -- The arrangement of a list of cells: 6, 13, 14, then 15 to 17 and 12 facet by facet. Definitions only.
-use Rattle.std.specs.Prelude.{◌≡◌, List, [], ◌∷◌, ◌++◌, map, ℕ, ◌+◌, ◌*◌, ◌≤◌, ◌<◌, length, take, Float}
+use Rattle.std.specs.Prelude.{◌≡◌, List, [], ◌∷◌, ◌++◌, map, ℕ, ◌+◌, ◌*◌, ◌≤◌, ◌<◌, length, take, Float, Ok, Err}
 use Rattle.std.proofs.lemmas.List.Edits.{sets}
-use Rattle.refusal.specs.declared.Verdict.TheVariants as D
-use Rattle.refusal.specs.Outcome.{Outcome, ok, refused, then}
+use Rattle.refusal.specs.Outcome.{Outcome, then}
 use Rattle.space.specs.declared.Point3.{Point3}
 use Rattle.space.specs.declared.Precision.{Precision}
 use Rattle.space.specs.Shapes.{Cell, Solid, corners}
 use Rattle.polygon.specs.Memory.{floats_of}
 use Rattle.room.specs.Rooms.{cell_counts, cell_at, counts_at, Within, Small}
 use Rattle.clip.specs.Clips.{Wide}
-use Rattle.indexed.specs.declared.Counted.{Counted}
-use Rattle.indexed.specs.declared.Counted.TheVariants as C
 use Rattle.indexed.specs.Stored.{flat}
 use Rattle.stack.specs.Stacks.{cells_counts, cells_sizes, cells_at, Lies}
 use Rattle.merge.specs.Merge.{owners_from}
@@ -30,7 +27,7 @@ pub record Arrangement : Type 0 where
   pub owners : List ℕ
 
 unfoldable pub arrange_cells : Precision → ℕ → List Cell → Outcome Arrangement
-arrange_cells t room cs = then (arrange t room (faces_of cs)) (λ s. ok (record { points = s.points; cycles = s.faces; owners = owners_from 0 (cells_sizes cs) }))
+arrange_cells t room cs = then (arrange t room (faces_of cs)) (λ s. Ok (record { points = s.points; cycles = s.faces; owners = owners_from 0 (cells_sizes cs) }))
 
 -- where each of some runs of these lengths begins, from a place on, and where the last one ends
 unfoldable pub starts_from : ℕ → List ℕ → List ℕ
@@ -39,32 +36,32 @@ starts_from a (n ∷ ns) = a ∷ starts_from (a + n) ns
 
 -- ---- what the code holds
 
-unfoldable pub layout_of : Outcome Solid → Layout
-layout_of (ok s) = record { verdict = D.Fine; points = length s.points; facets = length s.faces; vertices = length (flat s.faces) }
-layout_of (refused r) = record { verdict = D.Refused r; points = 0; facets = 0; vertices = 0 }
+unfoldable pub layout_of : Outcome Solid → Outcome Layout
+layout_of (Ok s) = Ok (record { points = length s.points; facets = length s.faces; vertices = length (flat s.faces) })
+layout_of (Err r) = Err r
 
-unfoldable pub layout_by : ℕ → ℕ → Counted → Layout
-layout_by n faces (C.Made m) = record { verdict = D.Fine; points = n; facets = faces; vertices = m }
-layout_by n faces (C.Refused r) = record { verdict = D.Refused r; points = 0; facets = 0; vertices = 0 }
+unfoldable pub layout_by : ℕ → ℕ → Outcome ℕ → Outcome Layout
+layout_by n faces (Ok m) = Ok (record { points = n; facets = faces; vertices = m })
+layout_by n faces (Err r) = Err r
 
 -- the points, the cycles and the cycles' lengths; after a refusal the slices are free
-pub record Shaped (o : Outcome Solid) (p₀ : List Float) (c₀ z₀ : List ℕ) (p : List Float) (c z : List ℕ) (r : Layout) : Type 0 where
+pub record Shaped (o : Outcome Solid) (p₀ : List Float) (c₀ z₀ : List ℕ) (p : List Float) (c z : List ℕ) (r : Outcome Layout) : Type 0 where
   pub is : r ≡ layout_of o
-  pub points : (s : Solid) → o ≡ ok s → p ≡ sets p₀ 0 (floats_of s.points)
-  pub cycles : (s : Solid) → o ≡ ok s → c ≡ sets c₀ 0 (flat s.faces)
-  pub lengths : (s : Solid) → o ≡ ok s → z ≡ sets z₀ 0 (map length s.faces)
+  pub points : (s : Solid) → o ≡ Ok s → p ≡ sets p₀ 0 (floats_of s.points)
+  pub cycles : (s : Solid) → o ≡ Ok s → c ≡ sets c₀ 0 (flat s.faces)
+  pub lengths : (s : Solid) → o ≡ Ok s → z ≡ sets z₀ 0 (map length s.faces)
 
-unfoldable pub laid_of : Outcome Arrangement → Layout
-laid_of (ok a) = record { verdict = D.Fine; points = length a.points; facets = length a.cycles; vertices = length (flat a.cycles) }
-laid_of (refused r) = record { verdict = D.Refused r; points = 0; facets = 0; vertices = 0 }
+unfoldable pub laid_of : Outcome Arrangement → Outcome Layout
+laid_of (Ok a) = Ok (record { points = length a.points; facets = length a.cycles; vertices = length (flat a.cycles) })
+laid_of (Err r) = Err r
 
 -- the points, the cycles, where each begins, and the owners; after a refusal the slices are free
-pub record Laid (o : Outcome Arrangement) (p₀ : List Float) (c₀ s₀ w₀ : List ℕ) (p : List Float) (c s w : List ℕ) (r : Layout) : Type 0 where
+pub record Laid (o : Outcome Arrangement) (p₀ : List Float) (c₀ s₀ w₀ : List ℕ) (p : List Float) (c s w : List ℕ) (r : Outcome Layout) : Type 0 where
   pub is : r ≡ laid_of o
-  pub points : (a : Arrangement) → o ≡ ok a → p ≡ sets p₀ 0 (floats_of a.points)
-  pub cycles : (a : Arrangement) → o ≡ ok a → c ≡ sets c₀ 0 (flat a.cycles)
-  pub starts : (a : Arrangement) → o ≡ ok a → s ≡ sets s₀ 0 (bounds 0 a.cycles)
-  pub owners : (a : Arrangement) → o ≡ ok a → w ≡ sets w₀ 0 a.owners
+  pub points : (a : Arrangement) → o ≡ Ok a → p ≡ sets p₀ 0 (floats_of a.points)
+  pub cycles : (a : Arrangement) → o ≡ Ok a → c ≡ sets c₀ 0 (flat a.cycles)
+  pub starts : (a : Arrangement) → o ≡ Ok a → s ≡ sets s₀ 0 (bounds 0 a.cycles)
+  pub owners : (a : Arrangement) → o ≡ Ok a → w ≡ sets w₀ 0 a.owners
 
 -- some faces stand at the front of the slices, with no more corners than the room
 pub record Facing (room faces : ℕ) (d : List Float) (n : List ℕ) : Type 0 where

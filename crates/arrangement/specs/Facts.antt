@@ -1,10 +1,10 @@
 -- What fusing takes for granted of an arrangement: of the definition, and of the slices that it was laid in.
-use Rattle.std.specs.Prelude.{◌≡◌, refl, List, [], ◌∷◌, ◌++◌, ℕ, zero, suc, ◌+◌, ◌*◌, ◌≤◌, ◌<◌, length, take, drop, get_or, replicate, Float}
+use Rattle.std.specs.Prelude.{◌≡◌, refl, List, [], ◌∷◌, ◌++◌, ℕ, zero, suc, ◌+◌, ◌*◌, ◌≤◌, ◌<◌, length, take, drop, get_or, replicate, Float, Ok}
 use Rattle.std.proofs.Common.{sym, ◌∙◌, subst, append-nil, arith, length-append, get_or-take}
 use Rattle.std.proofs.Math.Path.{ap}
 use Rattle.std.proofs.lemmas.List.Edits.{sets-eq}
 use Rattle.std.proofs.Math.Seq.{length-sets, drop-nil}
-use Rattle.refusal.specs.Outcome.{Outcome, ok}
+use Rattle.refusal.specs.Outcome.{Outcome}
 use Rattle.refusal.specs.Laws.{same_ok, then_ok}
 use Rattle.lists.specs.Laws.{front_stored}
 use Rattle.space.specs.declared.Precision.{Precision}
@@ -49,14 +49,14 @@ pub record Facets (a : Arrangement) (room k : ℕ) : Type 0 where
   pub owners : All (λ i. i < k) a.owners
 
 -- each facet is of one of the cells
-pub arrangement_owned : (t : Precision) (room : ℕ) (cs : List Cell) (a : Arrangement) → arrange_cells t room cs ≡ ok a → (length a.owners ≡ length a.cycles) × All (λ i. i < length cs) a.owners
+pub arrangement_owned : (t : Precision) (room : ℕ) (cs : List Cell) (a : Arrangement) → arrange_cells t room cs ≡ Ok a → (length a.owners ≡ length a.cycles) × All (λ i. i < length cs) a.owners
 unfolding arrange_cells
 arrangement_owned t room cs a e =
     let z = then_ok (arrange t room (faces_of cs)) _ a e in
     let m = arranged_many t room (faces_of cs) z.0 z.1 in
     subst (λ x. (length x.owners ≡ length x.cycles) × All (λ i. i < length cs) x.owners) (same_ok z.2) (omega (arith, owners_many 0 cs, m), owners_low 0 cs (length cs) (omega arith))
 
-pub arrangement_facets : (t : Precision) (room : ℕ) (cs : List Cell) (a : Arrangement) → arrange_cells t room cs ≡ ok a → All Sound cs → Facets a room (length cs)
+pub arrangement_facets : (t : Precision) (room : ℕ) (cs : List Cell) (a : Arrangement) → arrange_cells t room cs ≡ Ok a → All Sound cs → Facets a room (length cs)
 unfolding arrange_cells
 arrangement_facets t room cs a e sound =
     let z = then_ok (arrange t room (faces_of cs)) _ a e in
@@ -78,15 +78,15 @@ unfolding joined flat
 joined_flat [] = refl
 joined_flat (f ∷ fs) = ap (λ l. f ++ l) (joined_flat fs)
 
-module _ {o : Outcome Arrangement} {p₀ : List Float} {c₀ s₀ w₀ : List ℕ} {p : List Float} {c s w : List ℕ} {r : Layout} (L : Laid o p₀ c₀ s₀ w₀ p c s w r)
-    {a : Arrangement} (e : o ≡ ok a) {room k : ℕ} (G : Facets a room k) (cycles : room ≤ length c₀) (starts : room < length s₀) where
+module _ {o : Outcome Arrangement} {p₀ : List Float} {c₀ s₀ w₀ : List ℕ} {p : List Float} {c s w : List ℕ} {r : Layout} (L : Laid o p₀ c₀ s₀ w₀ p c s w (Ok r))
+    {a : Arrangement} (e : o ≡ Ok a) {room k : ℕ} (G : Facets a room k) (cycles : room ≤ length c₀) (starts : room < length s₀) where
   pub vertices_many : r.vertices ≡ length (flat a.cycles)
   unfolding laid_of
-  vertices_many = ap (λ x. x.vertices) (L.is ∙ ap laid_of e)
+  vertices_many = ap (λ x. x.vertices) (same_ok (L.is ∙ ap laid_of e))
 
   pub facets_many : r.facets ≡ length a.cycles
   unfolding laid_of
-  facets_many = ap (λ x. x.facets) (L.is ∙ ap laid_of e)
+  facets_many = ap (λ x. x.facets) (same_ok (L.is ∙ ap laid_of e))
 
   -- the vertices of all cycles, one behind another
   pub vertices_are : take r.vertices c ≡ flat a.cycles

@@ -1,15 +1,13 @@
 -- Laws of an arrangement in slices, in the words of the code.
 use Rattle.std.proofs.Math.Path.{◌≡◌, sym, ap, subst}
-use Rattle.std.specs.Prelude.{refl, List, [], ◌∷◌, ◌++◌, map, ℕ, zero, suc, ◌+◌, ◌*◌, ◌≤◌, ◌<◌, drop, replicate, Float}
+use Rattle.std.specs.Prelude.{refl, List, [], ◌∷◌, ◌++◌, map, ℕ, zero, suc, ◌+◌, ◌*◌, ◌≤◌, ◌<◌, drop, replicate, Float, Ok, Err}
 use Rattle.std.proofs.Common.{◌∙◌, append_assoc, append-nil, arith, add-one, length-append, take_at}
 use Rattle.std.proofs.Math.ListN.{length, take, set, get_or, length-map, length-set}
 use Rattle.std.proofs.lemmas.List.{length-replicate}
 use Rattle.std.proofs.Math.Seq.{sets, length-take-le}
 use Rattle.std.proofs.lemmas.List.Edits.{sets-eq}
 use Rattle.refusal.specs.declared.Refusal.{Refusal}
-use Rattle.refusal.specs.declared.Verdict.{Verdict}
-use Rattle.refusal.specs.declared.Verdict.TheVariants as D
-use Rattle.refusal.specs.Outcome.{Outcome, ok, refused, then, heard}
+use Rattle.refusal.specs.Outcome.{Outcome, then, heard}
 use Rattle.refusal.specs.Laws.{stop, go, same_ok, never_ok}
 use Rattle.lists.specs.Laws.{next, done}
 use Rattle.space.specs.declared.Point3.{Point3}
@@ -20,8 +18,6 @@ use Rattle.polygon.specs.Members.{All, all_append}
 use Rattle.room.specs.Rooms.{face_floats, cell_floats, cell_counts, cell_at, counts_at, Within, Small}
 use Rattle.room.specs.Laws.{corners_cons, corners_none, length_cell_counts, cell_back, within_stored, points_stored}
 use Rattle.clip.specs.Clips.{Wide}
-use Rattle.indexed.specs.declared.Counted.{Counted}
-use Rattle.indexed.specs.declared.Counted.TheVariants as C
 use Rattle.indexed.specs.Stored.{flat, Stored, Fits}
 use Rattle.stack.specs.declared.Stack.{Stack}
 use Rattle.stack.specs.Stacks.{cells_floats, cells_counts, cells_sizes, cells_at, stack_of, list_at, Sound, Lies, Listed, Holds}
@@ -182,29 +178,29 @@ module _ {room k faces : ℕ} {d : List Float} {n z : List ℕ} (S : Stands room
 -- an answer of merging
 pub record Merged (t : Precision) (c : Cell) (p₀ : List Float) (k₀ : List ℕ) (p : List Float) (k : List ℕ) (n : ℕ) : Type 0 where
   pub solid : Solid
-  pub is : merge t c ≡ ok solid
+  pub is : merge t c ≡ Ok solid
   pub many : n ≡ length solid.points
   pub points : p ≡ sets p₀ 0 (floats_of solid.points)
   pub places : k ≡ sets k₀ 0 (flat solid.faces)
 
-module _ (t : Precision) (c : Cell) (p₀ : List Float) (k₀ : List ℕ) (p : List Float) (k : List ℕ) (r : Counted) where
-  made_by : (o : Outcome Solid) (n : ℕ) → merge t c ≡ o → Stored o p₀ k₀ p k r → r ≡ C.Made n → Merged t c p₀ k₀ p k n
+module _ (t : Precision) (c : Cell) (p₀ : List Float) (k₀ : List ℕ) (p : List Float) (k : List ℕ) (r : Outcome ℕ) where
+  made_by : (o : Outcome Solid) (n : ℕ) → merge t c ≡ o → Stored o p₀ k₀ p k r → r ≡ Ok n → Merged t c p₀ k₀ p k n
   unfolding Stored
-  made_by (ok s) n g h e = record { solid = s; is = g; many = (let a = h.0 in cc); points = h.1; places = h.2 }
-  made_by (refused x) n g h e = absurd (let a = h.0 in let z : ◌≡◌ {A = ℕ} 0 1 = cc in omega arith)
+  made_by (Ok s) n g h e = record { solid = s; is = g; many = (let a = h.0 in cc); points = h.1; places = h.2 }
+  made_by (Err x) n g h e = absurd (let a = h.0 in let z : ◌≡◌ {A = ℕ} 0 1 = cc in omega arith)
 
-  pub merged_made : (n : ℕ) → Stored (merge t c) p₀ k₀ p k r → r ≡ C.Made n → Merged t c p₀ k₀ p k n
+  pub merged_made : (n : ℕ) → Stored (merge t c) p₀ k₀ p k r → r ≡ Ok n → Merged t c p₀ k₀ p k n
   merged_made n h e = made_by (merge t c) n refl h e
 
-  gone_by : (o : Outcome Solid) (x : Refusal) → Stored o p₀ k₀ p k r → r ≡ C.Refused x → o ≡ refused x
+  gone_by : (o : Outcome Solid) (x : Refusal) → Stored o p₀ k₀ p k r → r ≡ Err x → o ≡ Err x
   unfolding Stored
-  gone_by (ok s) x h e = absurd (let a = h.0 in let z : ◌≡◌ {A = ℕ} 0 1 = cc in omega arith)
-  gone_by (refused y) x h e = (let a = h.0 in let z : y ≡ x = cc in ap refused z)
+  gone_by (Ok s) x h e = absurd (let a = h.0 in let z : ◌≡◌ {A = ℕ} 0 1 = cc in omega arith)
+  gone_by (Err y) x h e = (let a = h.0 in let z : y ≡ x = cc in ap Err z)
 
-  pub merged_refused : (room : ℕ) (x : Refusal) (q : Layout) (c₀ z₀ c' z' : List ℕ) → Stored (merge t c) p₀ k₀ p k r → r ≡ C.Refused x → q ≡ layout_of (refused x) → Shaped (arrange t room c) p₀ c₀ z₀ p c' z' q
-  unfolding arrange
+  pub merged_refused : (room : ℕ) (x : Refusal) (q : Outcome Layout) (c₀ z₀ c' z' : List ℕ) → Stored (merge t c) p₀ k₀ p k r → r ≡ Err x → q ≡ Err x → Shaped (arrange t room c) p₀ c₀ z₀ p c' z' q
+  unfolding arrange layout_of
   merged_refused room x q c₀ z₀ c' z' h e g =
-      let o : arrange t room c ≡ refused x = stop (merge t c) _ x (gone_by (merge t c) x h e) in
+      let o : arrange t room c ≡ Err x = stop (merge t c) _ x (gone_by (merge t c) x h e) in
       record { is = g ∙ ap layout_of (sym o); points = λ s w. never_ok (sym o ∙ w); cycles = λ s w. never_ok (sym o ∙ w); lengths = λ s w. never_ok (sym o ∙ w) }
 
 -- what is asked of the slices
@@ -244,30 +240,30 @@ module _ {t : Precision} {room faces : ℕ} {d : List Float} {counts : List ℕ}
       }
 
   -- whatever conforming answers
-  shaped_by : (x : Outcome (List (List ℕ))) (a₀ b₀ : List Float) (l₀ c₀ z₀ : List ℕ) (a b : List Float) (l c z : List ℕ) (made : Counted) (r : Layout) →
+  shaped_by : (x : Outcome (List (List ℕ))) (a₀ b₀ : List Float) (l₀ c₀ z₀ : List ℕ) (a b : List Float) (l c z : List ℕ) (made : Outcome ℕ) (r : Outcome Layout) →
       conform_all t room M.solid.points M.solid.faces ≡ x → Arranged x a₀ b₀ l₀ c₀ z₀ a b l c z made → r ≡ layout_by n faces made →
       Shaped (arrange t room (cell_at d 0 (counts_at counts 0 faces))) p₀ c₀ z₀ p c z r
   unfolding Arranged arrange layout_by layout_of
-  shaped_by (ok fs) a₀ b₀ l₀ c₀ z₀ a b l c z made r g h e =
+  shaped_by (Ok fs) a₀ b₀ l₀ c₀ z₀ a b l c z made r g h e =
       let s : Solid = record { points = M.solid.points; faces = fs } in
-      let o : arrange t room (cell_at d 0 (counts_at counts 0 faces)) ≡ ok (record { points = M.solid.points; faces = fs })
+      let o : arrange t room (cell_at d 0 (counts_at counts 0 faces)) ≡ Ok (record { points = M.solid.points; faces = fs })
       = go (merge t (cell_at d 0 (counts_at counts 0 faces))) _ M.solid M.is ∙ go (conform_all t room M.solid.points M.solid.faces) _ fs g in
       let u : length (counts_at counts 0 faces) ≡ faces = length-take-le faces counts f.listed in
       let m : faces ≡ length fs
       = omega (arith, conform_many t room M.solid.points M.solid.faces fs g, ap length (merge_below t (cell_at d 0 (counts_at counts 0 faces)) M.solid M.is).1, length-map M.solid.faces length, ap length f.counts, u) in
       record {
-        is = e ∙ ap (layout_by n faces) h.0 ∙ ap {B = Layout} (λ y. record { verdict = D.Fine; points = y; facets = faces; vertices = length (flat fs) }) M.many
-            ∙ ap {B = Layout} (λ y. record { verdict = D.Fine; points = length M.solid.points; facets = y; vertices = length (flat fs) }) m ∙ ap layout_of (sym o);
+        is = e ∙ ap (layout_by n faces) h.0 ∙ ap {B = Outcome Layout} (λ y. Ok (record { points = y; facets = faces; vertices = length (flat fs) })) M.many
+            ∙ ap {B = Outcome Layout} (λ y. Ok (record { points = length M.solid.points; facets = y; vertices = length (flat fs) })) m ∙ ap layout_of (sym o);
         points = λ x w. M.points ∙ ap (λ y. sets p₀ 0 (floats_of y.points)) (same_ok (sym o ∙ w));
         cycles = λ x w. h.1 ∙ ap (λ y. sets c₀ 0 (flat y.faces)) (same_ok (sym o ∙ w));
         lengths = λ x w. h.2 ∙ ap (λ y. sets z₀ 0 (map length y.faces)) (same_ok (sym o ∙ w));
       }
-  shaped_by (refused x) a₀ b₀ l₀ c₀ z₀ a b l c z made r g h e =
-      let o : arrange t room (cell_at d 0 (counts_at counts 0 faces)) ≡ refused x
+  shaped_by (Err x) a₀ b₀ l₀ c₀ z₀ a b l c z made r g h e =
+      let o : arrange t room (cell_at d 0 (counts_at counts 0 faces)) ≡ Err x
       = go (merge t (cell_at d 0 (counts_at counts 0 faces))) _ M.solid M.is ∙ stop (conform_all t room M.solid.points M.solid.faces) _ x g in
       record { is = e ∙ ap (layout_by n faces) h.0 ∙ ap layout_of (sym o); points = λ s w. never_ok (sym o ∙ w); cycles = λ s w. never_ok (sym o ∙ w); lengths = λ s w. never_ok (sym o ∙ w) }
 
-  pub shaped_made : (a₀ b₀ : List Float) (l₀ c₀ z₀ : List ℕ) (a b : List Float) (l c z : List ℕ) (made : Counted) (r : Layout) →
+  pub shaped_made : (a₀ b₀ : List Float) (l₀ c₀ z₀ : List ℕ) (a b : List Float) (l c z : List ℕ) (made : Outcome ℕ) (r : Outcome Layout) →
       Arranged (conform_all t room (points_at p 0 n) (faces_at k 0 (counts_at counts 0 faces))) a₀ b₀ l₀ c₀ z₀ a b l c z made → r ≡ layout_by n faces made →
       Shaped (arrange t room (cell_at d 0 (counts_at counts 0 faces))) p₀ c₀ z₀ p c z r
   shaped_made a₀ b₀ l₀ c₀ z₀ a b l c z made r h e =
@@ -276,83 +272,92 @@ module _ {t : Precision} {room faces : ℕ} {d : List Float} {counts : List ℕ}
 
 -- ---- the code's cases
 
-pub layout_made : (n faces : ℕ) (made : Counted) (m : ℕ) → made ≡ C.Made m → ◌≡◌ {A = Layout} (record { verdict = D.Fine; points = n; facets = faces; vertices = m }) (layout_by n faces made)
+pub layout_made : (n faces : ℕ) (made : Outcome ℕ) (m : ℕ) → made ≡ Ok m → ◌≡◌ {A = Outcome Layout} (Ok (record { points = n; facets = faces; vertices = m })) (layout_by n faces made)
 unfolding layout_by
 layout_made n faces made m e = ap (layout_by n faces) (sym e)
 
-pub layout_refused : (n faces : ℕ) (made : Counted) (x : Refusal) (r : Layout) → made ≡ C.Refused x → r ≡ layout_of (refused x) → r ≡ layout_by n faces made
-unfolding layout_by layout_of
+pub layout_refused : (n faces : ℕ) (made : Outcome ℕ) (x : Refusal) (r : Outcome Layout) → made ≡ Err x → r ≡ Err x → r ≡ layout_by n faces made
+unfolding layout_by
 layout_refused n faces made x r e g = g ∙ ap (layout_by n faces) (sym e)
 
 -- ---- the whole list
 
-module _ (t : Precision) {room k faces : ℕ} {d : List Float} {n z : List ℕ} {p₀ : List Float} {c₀ l₀ : List ℕ} {p : List Float} {c l : List ℕ} {r : Layout}
-    (S : Stands room k faces d n z) (h : Shaped (arrange t room (cell_at d 0 (counts_at n 0 faces))) p₀ c₀ l₀ p c l r) (low : room ≤ 4611686018427387904) (long : room ≤ length l₀) where
-  lengths_are : (s : Solid) → arrange t room (cell_at d 0 (counts_at n 0 faces)) ≡ ok s → length s.faces ≤ room → take (length s.faces) l ≡ map length s.faces
-  lengths_are s e g =
-      ap (take (length s.faces)) (h.lengths s e ∙ sets-eq (map length s.faces) l₀ 0 (omega (arith, length-map s.faces length)))
-      ∙ take_at (map length s.faces) (drop (0 + length (map length s.faces)) l₀) (length s.faces) (length-map s.faces length)
+module _ (t : Precision) {room k faces : ℕ} {d : List Float} {n z : List ℕ} {p₀ : List Float} {c₀ l₀ : List ℕ} {p : List Float} {c l : List ℕ} {u : Outcome Layout}
+    (S : Stands room k faces d n z) (h : Shaped (arrange t room (cell_at d 0 (counts_at n 0 faces))) p₀ c₀ l₀ p c l u) where
+  gone_of : (o : Outcome Solid) (x : Refusal) → Err x ≡ layout_of o → o ≡ Err x
+  unfolding layout_of
+  gone_of (Ok s) x g = never_ok g
+  gone_of (Err y) x g = ap Err (let z : y ≡ x = cc in z)
 
-  facet_few : (s : Solid) → arrange t room (cell_at d 0 (counts_at n 0 faces)) ≡ ok s → length s.faces ≤ room
-  facet_few s e = omega (arith, (arranged t room (cell_at d 0 (counts_at n 0 faces)) s e (faces_facing S).wide).1, ap length (faces_read S), many_faces S, few_faces S)
-
-  asks_by : (o : Outcome Solid) → arrange t room (cell_at d 0 (counts_at n 0 faces)) ≡ o → r ≡ layout_of o → Placing (take r.facets l) 0 4611686018427387904 × (r.facets ≤ room)
-  unfolding layout_of Placing
-  asks_by (ok s) e g =
-      let m : r.facets ≡ length s.faces = ap (λ x. x.facets) g in (
-        subst (λ x. Placing x 0 4611686018427387904) (sym (ap (λ i. take i l) m ∙ lengths_are s e (facet_few s e)))
-            (placing_flat s.faces 0 4611686018427387904 (omega (arith, (arranged t room (cell_at d 0 (counts_at n 0 faces)) s e (faces_facing S).wide).0.fit, low))),
-        omega (arith, m, facet_few s e),
-      )
-  asks_by (refused x) e g =
-      let m : r.facets ≡ 0 = ap (λ x. x.facets) g in
-      (subst (λ i. Placing (take i l) 0 4611686018427387904) (sym m) (omega arith), omega (arith, m))
-
-  pub starts_ask : Placing (take r.facets l) 0 4611686018427387904 × (r.facets ≤ room)
-  starts_ask = asks_by (arrange t room (cell_at d 0 (counts_at n 0 faces))) refl h.is
-
-  laid_by : (o : Outcome Solid) (s₀ w₀ s w : List ℕ) → arrange t room (cell_at d 0 (counts_at n 0 faces)) ≡ o → r ≡ layout_of o →
-      w ≡ sets w₀ 0 (owners_from 0 (take k z)) → s ≡ sets s₀ 0 (starts_from 0 (take r.facets l)) → Laid (arrange_cells t room (cells_at d 0 n (take k z))) p₀ c₀ s₀ w₀ p c s w r
-  unfolding arrange_cells layout_of laid_of
-  laid_by (ok q) s₀ w₀ s w e g ew es =
-      let m : r.facets ≡ length q.faces = ap (λ x. x.facets) g in
-      let o : arrange_cells t room (cells_at d 0 n (take k z)) ≡ ok (record { points = q.points; cycles = q.faces; owners = owners_from 0 (cells_sizes (cells_at d 0 n (take k z))) })
-      = go (arrange t room (faces_of (cells_at d 0 n (take k z)))) _ q (ap (arrange t room) (sym (faces_read S)) ∙ e) in
-      record {
-        is = g ∙ ap laid_of (sym o);
-        points = λ x y. h.points q e ∙ ap (λ v. sets p₀ 0 (floats_of v.points)) (same_ok (sym o ∙ y));
-        cycles = λ x y. h.cycles q e ∙ ap (λ v. sets c₀ 0 (flat v.cycles)) (same_ok (sym o ∙ y));
-        starts = λ x y. es ∙ ap (λ v. sets s₀ 0 (starts_from 0 v)) (ap (λ i. take i l) m ∙ lengths_are q e (facet_few q e)) ∙ ap (sets s₀ 0) (starts_bounds 0 q.faces) ∙ ap (λ v. sets s₀ 0 (bounds 0 v.cycles)) (same_ok (sym o ∙ y));
-        owners = λ x y. ew ∙ ap (λ v. sets w₀ 0 (owners_from 0 v)) (sizes_are S) ∙ ap (λ v. sets w₀ 0 v.owners) (same_ok (sym o ∙ y));
-      }
-  laid_by (refused x) s₀ w₀ s w e g ew es =
-      let o : arrange_cells t room (cells_at d 0 n (take k z)) ≡ refused x = stop (arrange t room (faces_of (cells_at d 0 n (take k z)))) _ x (ap (arrange t room) (sym (faces_read S)) ∙ e) in
+  pub list_refused : (x : Refusal) (r : Outcome Layout) (s₀ w₀ s w : List ℕ) → u ≡ Err x → r ≡ Err x → Laid (arrange_cells t room (cells_at d 0 n (take k z))) p₀ c₀ s₀ w₀ p c s w r
+  unfolding arrange_cells laid_of
+  list_refused x r s₀ w₀ s w e g =
+      let q : arrange t room (cell_at d 0 (counts_at n 0 faces)) ≡ Err x = gone_of (arrange t room (cell_at d 0 (counts_at n 0 faces))) x (sym e ∙ h.is) in
+      let o : arrange_cells t room (cells_at d 0 n (take k z)) ≡ Err x = stop (arrange t room (faces_of (cells_at d 0 n (take k z)))) _ x (ap (arrange t room) (sym (faces_read S)) ∙ q) in
       record { is = g ∙ ap laid_of (sym o); points = λ a y. never_ok (sym o ∙ y); cycles = λ a y. never_ok (sym o ∙ y); starts = λ a y. never_ok (sym o ∙ y); owners = λ a y. never_ok (sym o ∙ y) }
 
-  pub list_laid : (s₀ w₀ s w : List ℕ) → w ≡ sets w₀ 0 (owners_from 0 (take k z)) → s ≡ sets s₀ 0 (starts_from 0 (take r.facets l)) →
-      Laid (arrange_cells t room (cells_at d 0 n (take k z))) p₀ c₀ s₀ w₀ p c s w r
-  list_laid s₀ w₀ s w ew es = laid_by (arrange t room (cell_at d 0 (counts_at n 0 faces))) s₀ w₀ s w refl h.is ew es
+  module _ (low : room ≤ 4611686018427387904) (long : room ≤ length l₀) (r : Layout) (made : u ≡ Ok r) where
+    lengths_are : (s : Solid) → arrange t room (cell_at d 0 (counts_at n 0 faces)) ≡ Ok s → length s.faces ≤ room → take (length s.faces) l ≡ map length s.faces
+    lengths_are s e g =
+        ap (take (length s.faces)) (h.lengths s e ∙ sets-eq (map length s.faces) l₀ 0 (omega (arith, length-map s.faces length)))
+        ∙ take_at (map length s.faces) (drop (0 + length (map length s.faces)) l₀) (length s.faces) (length-map s.faces length)
+
+    facet_few : (s : Solid) → arrange t room (cell_at d 0 (counts_at n 0 faces)) ≡ Ok s → length s.faces ≤ room
+    facet_few s e = omega (arith, (arranged t room (cell_at d 0 (counts_at n 0 faces)) s e (faces_facing S).wide).1, ap length (faces_read S), many_faces S, few_faces S)
+
+    asks_by : (o : Outcome Solid) → arrange t room (cell_at d 0 (counts_at n 0 faces)) ≡ o → Ok r ≡ layout_of o → Placing (take r.facets l) 0 4611686018427387904 × (r.facets ≤ room)
+    unfolding layout_of Placing
+    asks_by (Ok s) e g =
+        let m : r.facets ≡ length s.faces = ap (λ x. x.facets) (same_ok g) in (
+          subst (λ x. Placing x 0 4611686018427387904) (sym (ap (λ i. take i l) m ∙ lengths_are s e (facet_few s e)))
+              (placing_flat s.faces 0 4611686018427387904 (omega (arith, (arranged t room (cell_at d 0 (counts_at n 0 faces)) s e (faces_facing S).wide).0.fit, low))),
+          omega (arith, m, facet_few s e),
+        )
+    asks_by (Err x) e g = never_ok (sym g)
+
+    pub starts_ask : Placing (take r.facets l) 0 4611686018427387904 × (r.facets ≤ room)
+    starts_ask = asks_by (arrange t room (cell_at d 0 (counts_at n 0 faces))) refl (sym made ∙ h.is)
+
+    laid_by : (o : Outcome Solid) (s₀ w₀ s w : List ℕ) → arrange t room (cell_at d 0 (counts_at n 0 faces)) ≡ o → Ok r ≡ layout_of o →
+        w ≡ sets w₀ 0 (owners_from 0 (take k z)) → s ≡ sets s₀ 0 (starts_from 0 (take r.facets l)) → Laid (arrange_cells t room (cells_at d 0 n (take k z))) p₀ c₀ s₀ w₀ p c s w (Ok r)
+    unfolding arrange_cells layout_of laid_of
+    laid_by (Ok q) s₀ w₀ s w e g ew es =
+        let m : r.facets ≡ length q.faces = ap (λ x. x.facets) (same_ok g) in
+        let o : arrange_cells t room (cells_at d 0 n (take k z)) ≡ Ok (record { points = q.points; cycles = q.faces; owners = owners_from 0 (cells_sizes (cells_at d 0 n (take k z))) })
+        = go (arrange t room (faces_of (cells_at d 0 n (take k z)))) _ q (ap (arrange t room) (sym (faces_read S)) ∙ e) in
+        record {
+          is = g ∙ ap laid_of (sym o);
+          points = λ x y. h.points q e ∙ ap (λ v. sets p₀ 0 (floats_of v.points)) (same_ok (sym o ∙ y));
+          cycles = λ x y. h.cycles q e ∙ ap (λ v. sets c₀ 0 (flat v.cycles)) (same_ok (sym o ∙ y));
+          starts = λ x y. es ∙ ap (λ v. sets s₀ 0 (starts_from 0 v)) (ap (λ i. take i l) m ∙ lengths_are q e (facet_few q e)) ∙ ap (sets s₀ 0) (starts_bounds 0 q.faces) ∙ ap (λ v. sets s₀ 0 (bounds 0 v.cycles)) (same_ok (sym o ∙ y));
+          owners = λ x y. ew ∙ ap (λ v. sets w₀ 0 (owners_from 0 v)) (sizes_are S) ∙ ap (λ v. sets w₀ 0 v.owners) (same_ok (sym o ∙ y));
+        }
+    laid_by (Err x) s₀ w₀ s w e g ew es = never_ok (sym g)
+
+    pub list_laid : (s₀ w₀ s w : List ℕ) → w ≡ sets w₀ 0 (owners_from 0 (take k z)) → s ≡ sets s₀ 0 (starts_from 0 (take r.facets l)) →
+        Laid (arrange_cells t room (cells_at d 0 n (take k z))) p₀ c₀ s₀ w₀ p c s w (Ok r)
+    list_laid s₀ w₀ s w ew es = laid_by (arrange t room (cell_at d 0 (counts_at n 0 faces))) s₀ w₀ s w refl (sym made ∙ h.is) ew es
 
 -- what is lent for a list serves for its faces
 pub lent_work : {room faces : ℕ} {p : List Float} {k c z s w : List ℕ} → Lent room p k c z s w → faces ≤ room → Work room faces p k z
 lent_work m h = record { low = m.low; points = m.points; corners = m.corners; lengths = omega (arith, m.lengths) }
 
 module _ {room : ℕ} {s : Stack} {d : List Float} {n z : List ℕ} (h : Holds room s d n z) where
-  told : s.verdict ≡ D.Fine → list_at s d n z ≡ ok (cells_at d 0 n (take s.cells z))
+  told : s.verdict ≡ Ok tt → list_at s d n z ≡ Ok (cells_at d 0 n (take s.cells z))
   unfolding list_at heard
   told v = ap (λ x. heard x (cells_at d 0 n (take s.cells z))) v
 
-  pub list_stands : s.verdict ≡ D.Fine → Stands room s.cells s.faces d n z
+  pub list_stands : s.verdict ≡ Ok tt → Stands room s.cells s.faces d n z
   unfolding stack_of
   list_stands v = record { lies = h.lies _ (told v); cells = sym (ap (λ x. x.cells) (h.is ∙ ap stack_of (told v))); faces_are = sym (ap (λ x. x.faces) (h.is ∙ ap stack_of (told v))) }
 
-  pub list_arranged : (t : Precision) {p₀ : List Float} {c₀ s₀ w₀ : List ℕ} {p : List Float} {c q w : List ℕ} {r : Layout} → s.verdict ≡ D.Fine →
+  pub list_arranged : (t : Precision) {p₀ : List Float} {c₀ s₀ w₀ : List ℕ} {p : List Float} {c q w : List ℕ} {r : Outcome Layout} → s.verdict ≡ Ok tt →
       Laid (arrange_cells t room (cells_at d 0 n (take s.cells z))) p₀ c₀ s₀ w₀ p c q w r → Laid (then (list_at s d n z) (arrange_cells t room)) p₀ c₀ s₀ w₀ p c q w r
   list_arranged t {p₀} {c₀} {s₀} {w₀} {p} {c} {q} {w} {r} v l = subst (λ o. Laid (then o (arrange_cells t room)) p₀ c₀ s₀ w₀ p c q w r) (sym (told v)) l
 
-pub list_gone : (t : Precision) (room : ℕ) (s : Stack) (d : List Float) (n z : List ℕ) {p₀ : List Float} {c₀ s₀ w₀ : List ℕ} {p : List Float} {c q w : List ℕ} {r : Layout} (x : Refusal) → s.verdict ≡ D.Refused x → r ≡ layout_of (refused x) →
+pub list_gone : (t : Precision) (room : ℕ) (s : Stack) (d : List Float) (n z : List ℕ) {p₀ : List Float} {c₀ s₀ w₀ : List ℕ} {p : List Float} {c q w : List ℕ} {r : Outcome Layout} (x : Refusal) → s.verdict ≡ Err x → r ≡ Err x →
     Laid (then (list_at s d n z) (arrange_cells t room)) p₀ c₀ s₀ w₀ p c q w r
-unfolding list_at heard layout_of laid_of
+unfolding list_at heard laid_of
 list_gone t room s d n z {p₀} {c₀} {s₀} {w₀} {p} {c} {q} {w} {r} x v e =
-    let o : then (list_at s d n z) (arrange_cells t room) ≡ refused x = ap (λ y. then (heard y (cells_at d 0 n (take s.cells z))) (arrange_cells t room)) v in
+    let o : then (list_at s d n z) (arrange_cells t room) ≡ Err x = ap (λ y. then (heard y (cells_at d 0 n (take s.cells z))) (arrange_cells t room)) v in
     record { is = e ∙ ap laid_of (sym o); points = λ a y. never_ok (sym o ∙ y); cycles = λ a y. never_ok (sym o ∙ y); starts = λ a y. never_ok (sym o ∙ y); owners = λ a y. never_ok (sym o ∙ y) }

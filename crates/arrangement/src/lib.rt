@@ -4,50 +4,23 @@
 // the cell of each. Everything else that is lent is work memory, and all of it after a refusal.
 ghost use Rattle.std.specs.Prelude.{◌≡◌, ◌+◌, ◌*◌, ◌≤◌, ◌<◌, length, take};
 ghost use Rattle.std.proofs.lemmas.List.Edits.{sets};
-ghost use Rattle.refusal.specs.Outcome.{refused, then};
+ghost use Rattle.refusal.specs.Outcome.{then};
 ghost use Rattle.room.specs.Rooms.{cell_at, counts_at};
 ghost use Rattle.stack.specs.Stacks.{cells_at, list_at, Holds};
 ghost use Rattle.arrange.specs.Arrange.{arrange};
 ghost use Rattle.solids.specs.Frames.{Placing};
-ghost use Rattle.arrangement.specs.Arrangements.{arrange_cells, starts_from, layout_of, layout_by, Shaped, Laid, Facing, Stands, Work, Lent};
+ghost use Rattle.arrangement.specs.Arrangements.{arrange_cells, starts_from, Shaped, Laid, Facing, Stands, Work, Lent};
 
-use indexed::Counted;
-use refusal::{Refusal, Verdict};
+use refusal::Refusal;
 use space::Precision;
 use stack::Stack;
 
-// How many points, facets and vertices of facets there are; a refusal has none.
+// How many points, facets and vertices of facets there are.
 #[derive(Clone, Copy)]
 pub struct Layout {
-    pub verdict: Verdict,
     pub points: usize,
     pub facets: usize,
     pub vertices: usize,
-}
-
-fn gone(e: Refusal) -> Layout
-    ensures { result ≡ layout_of (refused e) }
-{
-    Layout {
-        verdict: Verdict::Refused(e),
-        points: 0,
-        facets: 0,
-        vertices: 0,
-    }
-}
-
-fn laid_out(n: usize, faces: usize, made: Counted) -> Layout
-    ensures { result ≡ layout_by n faces made }
-{
-    match made {
-        Counted::Made(m) => Layout {
-            verdict: Verdict::Fine,
-            points: n,
-            facets: faces,
-            vertices: m,
-        },
-        Counted::Refused(e) => gone(e),
-    }
 }
 
 // The vertices of the faces in `d` are merged, then the faces conform: their cycles go to `cycles`, how long each is to `lengths`.
@@ -61,34 +34,33 @@ fn arrange_faces(
     corners: &mut [u64],
     cycles: &mut [u64],
     lengths: &mut [u64],
-) -> Layout
+) -> Result<Layout, Refusal>
     requires { Facing limit faces d.now counts.now × Work limit faces points.old corners.old lengths.old }
     ensures { Shaped (arrange t limit (cell_at d.now 0 (counts_at counts.now 0 faces))) points.old cycles.old lengths.old points.new cycles.new lengths.new result }
 {
     let mut lows = [0.0; 4096];
     let mut highs = [0.0; 4096];
     let mut places = [0u64; 4096];
-    let merged = merge::merge(t, d, counts, faces, points, corners);
-    match merged {
-        Counted::Made(n) => {
-            let made = arrange::conform_all(
-                t,
-                limit,
-                points,
-                n,
-                corners,
-                counts,
-                faces,
-                &mut lows,
-                &mut highs,
-                &mut places,
-                cycles,
-                lengths,
-            );
-            laid_out(n, faces, made)
-        }
-        Counted::Refused(e) => gone(e),
-    }
+    let n = merge::merge(t, d, counts, faces, points, corners)?;
+    let m = arrange::conform_all(
+        t,
+        limit,
+        points,
+        n,
+        corners,
+        counts,
+        faces,
+        &mut lows,
+        &mut highs,
+        &mut places,
+        cycles,
+        lengths,
+    )?;
+    Ok(Layout {
+        points: n,
+        facets: faces,
+        vertices: m,
+    })
 }
 
 // Where each of n cycles begins, by their lengths, and where the last one ends.
@@ -97,12 +69,10 @@ pub fn starts_of(lengths: &[u64], n: usize, starts: &mut [u64])
     ensures { starts.new ≡ sets starts.old 0 (starts_from 0 (take n lengths.now)) }
 {
     let mut at = 0;
-    let mut i = 0;
-    while i < n {
+    for i in 0..n {
         let c = lengths[i] as usize;
         starts[i] = at as u64;
         at += c;
-        i += 1;
     }
     starts[n] = at as u64;
 }
@@ -122,15 +92,15 @@ fn arrange_list(
     lengths: &mut [u64],
     starts: &mut [u64],
     owners: &mut [u64],
-) -> Layout
+) -> Result<Layout, Refusal>
     requires { Stands limit k faces d.now counts.now sizes.now × Lent limit points.old corners.old cycles.old lengths.old starts.old owners.old }
     ensures { Laid (arrange_cells t limit (cells_at d.now 0 counts.now (take k sizes.now))) points.old cycles.old starts.old owners.old points.new cycles.new starts.new owners.new result }
 {
-    let r = arrange_faces(t, limit, d, counts, faces, points, corners, cycles, lengths);
+    let r = arrange_faces(t, limit, d, counts, faces, points, corners, cycles, lengths)?;
     let f = r.facets;
     merge::owners_of(sizes, k, owners);
     starts_of(lengths, f, starts);
-    r
+    Ok(r)
 }
 
 // A list of cells becomes an arrangement; a refusal of the list stays.
@@ -147,17 +117,15 @@ pub fn arrangement(
     lengths: &mut [u64],
     starts: &mut [u64],
     owners: &mut [u64],
-) -> Layout
+) -> Result<Layout, Refusal>
     requires { Holds limit s d.now counts.now sizes.now × Lent limit points.old corners.old cycles.old lengths.old starts.old owners.old }
     ensures { Laid (then (list_at s d.now counts.now sizes.now) (arrange_cells t limit)) points.old cycles.old starts.old owners.old points.new cycles.new starts.new owners.new result }
 {
     let v = s.verdict;
     let k = s.cells;
     let f = s.faces;
-    match v {
-        Verdict::Fine => arrange_list(
-            t, limit, k, f, d, counts, sizes, points, corners, cycles, lengths, starts, owners,
-        ),
-        Verdict::Refused(e) => gone(e),
-    }
+    v?;
+    arrange_list(
+        t, limit, k, f, d, counts, sizes, points, corners, cycles, lengths, starts, owners,
+    )
 }

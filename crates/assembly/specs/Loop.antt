@@ -1,9 +1,9 @@
 -- The loop over the bodies, in the words of the code: the cells of group i are cells[cuts[i]..cuts[i + 1]].
-use Rattle.std.specs.Prelude.{◌≡◌, List, [], ℕ, ◌+◌, ◌-◌, ◌≤◌, ◌<◌, length, get_or, set, take, drop}
-use Rattle.std.proofs.Common.{sym, subst, arith}
-use Rattle.refusal.specs.declared.Verdict.{Verdict}
-use Rattle.refusal.specs.declared.Verdict.TheVariants.{Fine, Refused}
+use Rattle.std.specs.Prelude.{◌≡◌, refl, List, [], ℕ, ◌+◌, ◌-◌, ◌≤◌, ◌<◌, length, get_or, set, take, drop, Ok, Err}
+use Rattle.std.proofs.Common.{sym, ap, ◌∙◌, subst, arith}
+use Rattle.refusal.specs.declared.Refusal.{Refusal}
 use Rattle.refusal.specs.Outcome.{Outcome, each}
+use Rattle.refusal.specs.Laws.{same_ok, never_ok}
 use Rattle.sums.specs.Sum.{sum}
 use Rattle.keys.specs.Rows.{Starts, row, rows, row_at, length_rows}
 use Rattle.bodies.specs.Fusing.{Facet, Sense, faces_of, body_of}
@@ -12,8 +12,8 @@ use Rattle.fusing.specs.declared.Made.{Made}
 use Rattle.fusing.specs.Bodied.{Bodied}
 use Rattle.fusing.specs.Bench.{Bench}
 use Rattle.assembly.specs.declared.Fused.{Fused}
-use Rattle.assembly.specs.Answer.{Laid, after_body, ended_as}
-use Rattle.assembly.specs.Walk.{Stepped, Part, Standing, standing_start, standing_part, standing_end, part_out, part_sizes, part_counts, part_step}
+use Rattle.assembly.specs.Answer.{Laid}
+use Rattle.assembly.specs.Walk.{Stepped, Part, Standing, part_start, standing_part, part_end, standing_refused, part_out, part_sizes, part_counts, part_step}
 
 -- ---- one body
 
@@ -28,9 +28,21 @@ module _ (fs : List Facet) (cells cuts : List ℕ) (g i : ℕ) (w : Starts cells
   pub step_room : (at n : ℕ) → at + length (faces_of fs (row cells cuts i)) ≤ n → at + length (faces_of fs lent_cells) ≤ n
   step_room at n l = subst (λ c. at + length (faces_of fs c) ≤ n) (sym same_cells) l
 
-  pub stepped : (volume : List ℕ → Outcome Sense) (x s b : List ℕ) (sat at : ℕ) (x' s' b' : List ℕ) (r : Made) (n : Fused) → Bodied (body_of volume fs lent_cells) (length (faces_of fs lent_cells)) x s at sat x' s' r →
-      b' ≡ set b i (r.shells - sat) → n ≡ after_body r.verdict g i r.shells r.facets → Stepped (body_of volume fs (row cells cuts i)) (length (faces_of fs (row cells cuts i))) x s b g i sat at x' s' b' n
-  stepped volume x s b sat at x' s' b' r n e q t = record { made = r; body = subst (λ c. Bodied (body_of volume fs c) (length (faces_of fs c)) x s at sat x' s' r) same_cells e; count = q; after = t }
+  pub stepped : (volume : List ℕ → Outcome Sense) (x s b : List ℕ) (sat at : ℕ) (x' s' b' : List ℕ) (n : Outcome Made) (r : Made) → Bodied (body_of volume fs lent_cells) (length (faces_of fs lent_cells)) x s at sat x' s' n → n ≡ Ok r →
+      b' ≡ set b i (r.shells - sat) → Stepped (body_of volume fs (row cells cuts i)) (length (faces_of fs (row cells cuts i))) x s b i sat at x' s' b' (Ok r)
+  stepped volume x s b sat at x' s' b' n r e z q = record {
+    body = subst (λ c. Bodied (body_of volume fs c) (length (faces_of fs c)) x s at sat x' s' (Ok r)) same_cells (subst (Bodied (body_of volume fs lent_cells) (length (faces_of fs lent_cells)) x s at sat x' s') z e);
+    count = λ m y. q ∙ ap (λ r. set b i (r.shells - sat)) (same_ok y);
+    kept = λ m y. never_ok (sym y);
+  }
+
+  pub step_refused : (volume : List ℕ → Outcome Sense) (x s b : List ℕ) (sat at : ℕ) (x' s' : List ℕ) (n : Outcome Made) (y : Refusal) (u : Outcome Made) → Bodied (body_of volume fs lent_cells) (length (faces_of fs lent_cells)) x s at sat x' s' n → n ≡ Err y →
+      u ≡ Err y → Stepped (body_of volume fs (row cells cuts i)) (length (faces_of fs (row cells cuts i))) x s b i sat at x' s' b u
+  step_refused volume x s b sat at x' s' n y u e z q = record {
+    body = subst (λ c. Bodied (body_of volume fs c) (length (faces_of fs c)) x s at sat x' s' u) same_cells (subst (Bodied (body_of volume fs lent_cells) (length (faces_of fs lent_cells)) x s at sat x' s') (z ∙ sym q) e);
+    count = λ m k. never_ok (sym q ∙ k);
+    kept = λ m k. refl;
+  }
 
 -- ---- all of them
 
@@ -68,46 +80,42 @@ bench_on v n a₀ b₀ c₀ d₀ e₀ f₀ g₀ h₀ a b c d e f g h w q = recor
 }
 
 module _ (volume : List ℕ → Outcome Sense) (fs : List Facet) (cells cuts : List ℕ) (g : ℕ) (x₀ s₀ b₀ : List ℕ) where
-  abbrev pub Walking : List ℕ → List ℕ → List ℕ → Fused → Type 0
-  Walking x s b m = Standing volume fs (rows cells cuts g) x₀ s₀ b₀ x s b m.verdict m.bodies m.shells m.facets
+  abbrev pub Walking : List ℕ → List ℕ → List ℕ → Made → ℕ → Type 0
+  Walking x s b m i = Part volume fs (rows cells cuts g) x₀ s₀ b₀ x s b i m.shells m.facets
 
   many : length (rows cells cuts g) ≡ g
   many = length_rows cells cuts g
 
-  pub walking_start : sum (λ c. length (faces_of fs c)) (rows cells cuts g) ≤ length x₀ → sum (λ c. length (faces_of fs c)) (rows cells cuts g) ≤ length s₀ → g ≤ length b₀ → Walking x₀ s₀ b₀ (record { verdict = Fine; bodies = 0; shells = 0; facets = 0 })
-  walking_start h l m = standing_start volume fs (rows cells cuts g) x₀ s₀ b₀ h l (omega (arith, many))
+  pub walking_start : sum (λ c. length (faces_of fs c)) (rows cells cuts g) ≤ length x₀ → sum (λ c. length (faces_of fs c)) (rows cells cuts g) ≤ length s₀ → g ≤ length b₀ → Walking x₀ s₀ b₀ (record { facets = 0; shells = 0 }) 0
+  walking_start h l m = part_start volume fs (rows cells cuts g) x₀ s₀ b₀ h l (omega (arith, many))
 
-  module _ (x s b : List ℕ) (m : Fused) (h : m.bodies < g) (w : Walking x s b m) where
-    inn : m.bodies < length (rows cells cuts g)
+  module _ (x s b : List ℕ) (m : Made) (i : ℕ) (h : i < g) (w : Walking x s b m i) where
+    inn : i < length (rows cells cuts g)
     inn = omega (arith, many)
 
-    part : Part volume fs (rows cells cuts g) x₀ s₀ b₀ x s b m.bodies m.shells m.facets
-    part = standing_part volume fs (rows cells cuts g) x₀ s₀ b₀ x s b m.verdict m.bodies m.shells m.facets inn w
-
-    here : get_or (rows cells cuts g) m.bodies [] ≡ row cells cuts m.bodies
-    here = row_at cells cuts g m.bodies h
+    here : get_or (rows cells cuts g) i [] ≡ row cells cuts i
+    here = row_at cells cuts g i h
 
     -- what a turn asks
-    pub walking_out : m.facets + length (faces_of fs (row cells cuts m.bodies)) ≤ length x
-    walking_out = subst (λ c. m.facets + length (faces_of fs c) ≤ length x) here (part_out volume fs (rows cells cuts g) x₀ s₀ b₀ x s b m.bodies m.shells m.facets inn part)
+    pub walking_out : m.facets + length (faces_of fs (row cells cuts i)) ≤ length x
+    walking_out = subst (λ c. m.facets + length (faces_of fs c) ≤ length x) here (part_out volume fs (rows cells cuts g) x₀ s₀ b₀ x s b i m.shells m.facets inn w)
 
-    pub walking_sizes : m.shells + length (faces_of fs (row cells cuts m.bodies)) ≤ length s
-    walking_sizes = subst (λ c. m.shells + length (faces_of fs c) ≤ length s) here (part_sizes volume fs (rows cells cuts g) x₀ s₀ b₀ x s b m.bodies m.shells m.facets inn part)
+    pub walking_sizes : m.shells + length (faces_of fs (row cells cuts i)) ≤ length s
+    walking_sizes = subst (λ c. m.shells + length (faces_of fs c) ≤ length s) here (part_sizes volume fs (rows cells cuts g) x₀ s₀ b₀ x s b i m.shells m.facets inn w)
 
-    pub walking_counts : m.bodies < length b
-    walking_counts = part_counts volume fs (rows cells cuts g) x₀ s₀ b₀ x s b m.bodies m.shells m.facets inn part
+    pub walking_counts : i < length b
+    walking_counts = part_counts volume fs (rows cells cuts g) x₀ s₀ b₀ x s b i m.shells m.facets inn w
 
-    module _ (x' s' b' : List ℕ) (n : Fused) (t : Stepped (body_of volume fs (row cells cuts m.bodies)) (length (faces_of fs (row cells cuts m.bodies))) x s b g m.bodies m.shells m.facets x' s' b' n) where
-      turn : Walking x' s' b' n × (m.bodies < n.bodies)
-      turn = part_step volume fs (rows cells cuts g) x₀ s₀ b₀ x s b m.bodies m.shells m.facets inn part x' s' b' n
-          (subst (λ k. Stepped (body_of volume fs (get_or (rows cells cuts g) m.bodies [])) (length (faces_of fs (get_or (rows cells cuts g) m.bodies []))) x s b k m.bodies m.shells m.facets x' s' b' n) (sym many)
-          (subst (λ c. Stepped (body_of volume fs c) (length (faces_of fs c)) x s b g m.bodies m.shells m.facets x' s' b' n) (sym here) t))
+    module _ (x' s' b' : List ℕ) (n : Outcome Made) (t : Stepped (body_of volume fs (row cells cuts i)) (length (faces_of fs (row cells cuts i))) x s b i m.shells m.facets x' s' b' n) where
+      turn : Standing volume fs (rows cells cuts g) x₀ s₀ b₀ x' s' b' (i + 1) n
+      turn = part_step volume fs (rows cells cuts g) x₀ s₀ b₀ x s b i m.shells m.facets inn w x' s' b' n
+          (subst (λ c. Stepped (body_of volume fs c) (length (faces_of fs c)) x s b i m.shells m.facets x' s' b' n) (sym here) t)
 
-      pub walking_step : Walking x' s' b' n
-      walking_step = turn.0
+      pub walking_step : (r : Made) → n ≡ Ok r → Walking x' s' b' r (i + 1)
+      walking_step r z = standing_part volume fs (rows cells cuts g) x₀ s₀ b₀ x' s' b' (i + 1) n r z turn
 
-      pub walking_on : m.bodies < n.bodies
-      walking_on = turn.1
+      pub walking_refused : (y : Refusal) (u : Outcome Fused) → n ≡ Err y → u ≡ Err y → Laid (each (body_of volume fs) [] (rows cells cuts g)) x₀ s₀ b₀ x' s' b' u
+      walking_refused y u z e = standing_refused volume fs (rows cells cuts g) x₀ s₀ b₀ x' s' b' (i + 1) n y u z e turn
 
-  pub walking_end : (x s b : List ℕ) (m n : Fused) → g ≤ m.bodies → Walking x s b m → n ≡ ended_as m.verdict m.bodies m.shells m.facets → Laid (each (body_of volume fs) [] (rows cells cuts g)) x₀ s₀ b₀ x s b n
-  walking_end x s b m n h w e = standing_end volume fs (rows cells cuts g) x₀ s₀ b₀ x s b m.verdict m.bodies m.shells m.facets n (omega (arith, many)) w e
+  pub walking_end : (x s b : List ℕ) (m : Made) (i : ℕ) → g ≤ i → Walking x s b m i → Laid (each (body_of volume fs) [] (rows cells cuts g)) x₀ s₀ b₀ x s b (Ok (record { bodies = g; shells = m.shells; facets = m.facets }))
+  walking_end x s b m i h w = part_end volume fs (rows cells cuts g) x₀ s₀ b₀ x s b i m.shells m.facets g (omega (arith, many)) (omega (arith, many, w.upto)) w

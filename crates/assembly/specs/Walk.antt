@@ -1,15 +1,13 @@
 -- The walk over the bodies: each is written behind those before it.
-use Rattle.std.specs.Prelude.{◌≡◌, refl, ℕ, ◌+◌, ◌-◌, ◌≤◌, ◌<◌, get_or, drop}
+use Rattle.std.specs.Prelude.{◌≡◌, refl, ℕ, ◌+◌, ◌-◌, ◌≤◌, ◌<◌, get_or, drop, Ok, Err}
 use Rattle.std.proofs.Math.Path.{sym, ap, ap₂, subst}
 use Rattle.std.proofs.Common.{◌∙◌, arith, add-one, length-append, drop_of_length-le, drop-cons}
 use mathlib.Core.List.{List, [], ◌∷◌, ◌++◌, map, map-append, append_assoc, append-nil}
 use Rattle.std.proofs.Math.ListN.{length, set}
 use Rattle.std.proofs.lemmas.List.{length-map}
 use Rattle.refusal.specs.declared.Refusal.{Refusal}
-use Rattle.refusal.specs.declared.Verdict.{Verdict}
-use Rattle.refusal.specs.declared.Verdict.TheVariants.{Fine, Refused}
-use Rattle.refusal.specs.Outcome.{Outcome, ok, refused, each}
-use Rattle.refusal.specs.Laws.{each_stop, each_go, each_end}
+use Rattle.refusal.specs.Outcome.{Outcome, each}
+use Rattle.refusal.specs.Laws.{each_stop, each_go, each_end, same_ok, never_ok}
 use Rattle.sums.specs.Sum.{sum}
 use Rattle.groups.specs.Groups.{joined}
 use Rattle.bodies.specs.Fusing.{Facet, Sense, Bodies, faces_of, body_of}
@@ -17,22 +15,20 @@ use Rattle.listing.specs.Appended.{appended, append_none, append_one, append_mor
 use Rattle.listing.specs.Listed.{joined_both}
 use Rattle.fusing.specs.declared.Made.{Made}
 use Rattle.fusing.specs.Bodied.{Bodied}
-use Rattle.fusing.specs.Bench.{Bench}
 use Rattle.assembly.specs.declared.Fused.{Fused}
-use Rattle.assembly.specs.Answer.{shells_in, Laid, after_body, ended_as}
+use Rattle.assembly.specs.Answer.{shells_in, Laid}
 
--- One body of m facets more: written, counted, and the walk after it.
-pub record Stepped (o : Outcome (List (List ℕ))) (m : ℕ) (x s b : List ℕ) (g i sat at : ℕ) (x' s' b' : List ℕ) (n : Fused) : Type 0 where
-  pub made : Made
-  pub body : Bodied o m x s at sat x' s' made
-  pub count : b' ≡ set b i (made.shells - sat)
-  pub after : n ≡ after_body made.verdict g i made.shells made.facets
+-- One body of m facets more, written and counted; a refusal counts nothing.
+pub record Stepped (o : Outcome (List (List ℕ))) (m : ℕ) (x s b : List ℕ) (i sat at : ℕ) (x' s' b' : List ℕ) (n : Outcome Made) : Type 0 where
+  pub body : Bodied o m x s at sat x' s' n
+  pub count : (r : Made) → n ≡ Ok r → b' ≡ set b i (r.shells - sat)
+  pub kept : (e : Refusal) → n ≡ Err e → b' ≡ b
 
 -- shells are never fewer than before
-pub no_fewer : (o : Outcome (List (List ℕ))) (m : ℕ) (x s : List ℕ) (at sat : ℕ) (x' s' : List ℕ) (r : Made) → Bodied o m x s at sat x' s' r → sat ≤ r.shells
+pub no_fewer : (o : Outcome (List (List ℕ))) (m : ℕ) (x s : List ℕ) (at sat : ℕ) (x' s' : List ℕ) (n : Outcome Made) (r : Made) → Bodied o m x s at sat x' s' n → n ≡ Ok r → sat ≤ r.shells
 unfolding Bodied
-no_fewer (ok b) m x s at sat x' s' r w = omega (arith, ap (λ r. r.shells) w.0)
-no_fewer (refused e) m x s at sat x' s' r w = omega (arith, ap (λ r. r.shells) w)
+no_fewer (Ok b) m x s at sat x' s' n r w z = omega (arith, ap (λ r. r.shells) (same_ok (sym z ∙ w.0)))
+no_fewer (Err e) m x s at sat x' s' n r w z = never_ok (sym w ∙ z)
 
 shells_snoc : (bs : Bodies) (b : List (List ℕ)) → shells_in (bs ++ (b ∷ [])) ≡ shells_in bs ++ b
 unfolding shells_in
@@ -62,15 +58,15 @@ module _ (volume : List ℕ → Outcome Sense) (fs : List Facet) (gs : List (Lis
     pub room_b : length gs ≤ length b₀
     pub upto : i ≤ length gs
 
-  -- The walk goes on, or it is refused and at its end.
-  unfoldable pub Standing : List ℕ → List ℕ → List ℕ → List ℕ → List ℕ → List ℕ → Verdict → ℕ → ℕ → ℕ → Type 0
-  Standing x₀ s₀ b₀ x s b Fine i sat at = Part x₀ s₀ b₀ x s b i sat at
-  Standing x₀ s₀ b₀ x s b (Refused r) i sat at = (i ≡ length gs) × (each (body_of volume fs) [] gs ≡ refused r)
+  -- Behind i groups the walk stands at a part, or it is refused.
+  unfoldable pub Standing : List ℕ → List ℕ → List ℕ → List ℕ → List ℕ → List ℕ → ℕ → Outcome Made → Type 0
+  Standing x₀ s₀ b₀ x s b i (Ok r) = Part x₀ s₀ b₀ x s b i r.shells r.facets
+  Standing x₀ s₀ b₀ x s b i (Err e) = each (body_of volume fs) [] gs ≡ Err e
 
   module _ (x₀ s₀ b₀ : List ℕ) where
-    pub standing_start : sum (λ c. length (faces_of fs c)) gs ≤ length x₀ → sum (λ c. length (faces_of fs c)) gs ≤ length s₀ → length gs ≤ length b₀ → Standing x₀ s₀ b₀ x₀ s₀ b₀ Fine 0 0 0
-    unfolding Standing shells_in joined
-    standing_start h l m = record {
+    pub part_start : sum (λ c. length (faces_of fs c)) gs ≤ length x₀ → sum (λ c. length (faces_of fs c)) gs ≤ length s₀ → length gs ≤ length b₀ → Part x₀ s₀ b₀ x₀ s₀ b₀ 0 0 0
+    unfolding shells_in joined
+    part_start h l m = record {
       done = [];
       left = refl;
       bodies = refl;
@@ -86,18 +82,22 @@ module _ (volume : List ℕ → Outcome Sense) (fs : List Facet) (gs : List (Lis
       upto = omega arith;
     }
 
-    pub standing_part : (x s b : List ℕ) (v : Verdict) (i sat at : ℕ) → i < length gs → Standing x₀ s₀ b₀ x s b v i sat at → Part x₀ s₀ b₀ x s b i sat at
+    pub standing_part : (x s b : List ℕ) (i : ℕ) (n : Outcome Made) (r : Made) → n ≡ Ok r → Standing x₀ s₀ b₀ x s b i n → Part x₀ s₀ b₀ x s b i r.shells r.facets
     unfolding Standing
-    standing_part x s b Fine i sat at h w = w
-    standing_part x s b (Refused r) i sat at h w = absurd (omega (arith, w.0))
+    standing_part x s b i n r z w = subst (Standing x₀ s₀ b₀ x s b i) z w
 
-    pub standing_end : (x s b : List ℕ) (v : Verdict) (i sat at : ℕ) (n : Fused) → length gs ≤ i → Standing x₀ s₀ b₀ x s b v i sat at → n ≡ ended_as v i sat at → Laid (each (body_of volume fs) [] gs) x₀ s₀ b₀ x s b n
-    unfolding Standing Laid ended_as
-    standing_end x s b Fine i sat at n h w e =
-        let z : each (body_of volume fs) [] gs ≡ ok w.done = sym w.left ∙ ap (each (body_of volume fs) w.done) (drop_of_length-le gs h) ∙ each_end (body_of volume fs) w.done in
-        subst (λ o. Laid o x₀ s₀ b₀ x s b n) (sym z)
-        (e ∙ ap (λ k. record { verdict = Fine; bodies = k; shells = sat; facets = at }) w.bodies ∙ ap₂ (λ k l. record { verdict = Fine; bodies = length w.done; shells = k; facets = l }) w.shells w.facets, w.out, w.sizes, w.counts)
-    standing_end x s b (Refused r) i sat at n h w e = subst (λ o. Laid o x₀ s₀ b₀ x s b n) (sym w.1) e
+    pub part_end : (x s b : List ℕ) (i sat at k : ℕ) → length gs ≤ i → k ≡ i → Part x₀ s₀ b₀ x s b i sat at → Laid (each (body_of volume fs) [] gs) x₀ s₀ b₀ x s b (Ok (record { bodies = k; shells = sat; facets = at }))
+    unfolding Laid
+    part_end x s b i sat at k h e w =
+        let z : each (body_of volume fs) [] gs ≡ Ok w.done = sym w.left ∙ ap (each (body_of volume fs) w.done) (drop_of_length-le gs h) ∙ each_end (body_of volume fs) w.done in
+        subst (λ o. Laid o x₀ s₀ b₀ x s b (Ok (record { bodies = k; shells = sat; facets = at }))) (sym z)
+        (ap (λ k. Ok (record { bodies = k; shells = sat; facets = at })) (e ∙ w.bodies) ∙ ap₂ (λ k l. Ok (record { bodies = length w.done; shells = k; facets = l })) w.shells w.facets, w.out, w.sizes, w.counts)
+
+    pub standing_refused : (x s b : List ℕ) (i : ℕ) (n : Outcome Made) (y : Refusal) (u : Outcome Fused) → n ≡ Err y → u ≡ Err y → Standing x₀ s₀ b₀ x s b i n → Laid (each (body_of volume fs) [] gs) x₀ s₀ b₀ x s b u
+    unfolding Standing Laid
+    standing_refused x s b i n y u z e w =
+        let q : each (body_of volume fs) [] gs ≡ Err y = subst (Standing x₀ s₀ b₀ x s b i) z w in
+        subst (λ o. Laid o x₀ s₀ b₀ x s b u) (sym q) e
 
     module _ (x s b : List ℕ) (i sat at : ℕ) (h : i < length gs) (w : Part x₀ s₀ b₀ x s b i sat at) where
       abbrev g : List ℕ
@@ -138,7 +138,7 @@ module _ (volume : List ℕ → Outcome Sense) (fs : List Facet) (gs : List (Lis
       pub part_counts : i < length b
       part_counts = omega (arith, w.room_b, size_b)
 
-      made : (y : List (List ℕ)) (x' s' b' : List ℕ) → body_of volume fs g ≡ ok y → x' ≡ appended x at (joined y) → s' ≡ appended s sat (map length y) → b' ≡ set b i (length y) → length (joined y) ≡ length (faces_of fs g) → length y ≤ length (faces_of fs g) →
+      made : (y : List (List ℕ)) (x' s' b' : List ℕ) → body_of volume fs g ≡ Ok y → x' ≡ appended x at (joined y) → s' ≡ appended s sat (map length y) → b' ≡ set b i (length y) → length (joined y) ≡ length (faces_of fs g) → length y ≤ length (faces_of fs g) →
           Part x₀ s₀ b₀ x' s' b' (i + 1) (sat + length y) (at + length (joined y))
       made y x' s' b' e ex es eb n m = record {
         done = w.done ++ (y ∷ []);
@@ -158,17 +158,14 @@ module _ (volume : List ℕ → Outcome Sense) (fs : List Facet) (gs : List (Lis
         upto = omega arith;
       }
 
-      step_by : (o : Outcome (List (List ℕ))) (x' s' b' : List ℕ) (n : Fused) → body_of volume fs g ≡ o → Stepped o (length (faces_of fs g)) x s b (length gs) i sat at x' s' b' n → Standing x₀ s₀ b₀ x' s' b' n.verdict n.bodies n.shells n.facets × (i < n.bodies)
-      unfolding Standing Bodied after_body
-      step_by (ok y) x' s' b' n e t =
+      step_by : (o : Outcome (List (List ℕ))) (x' s' b' : List ℕ) (n : Outcome Made) → body_of volume fs g ≡ o → Stepped o (length (faces_of fs g)) x s b i sat at x' s' b' n → Standing x₀ s₀ b₀ x' s' b' (i + 1) n
+      unfolding Standing Bodied
+      step_by (Ok y) x' s' b' n e t =
           let q = t.body in
-          let k : n ≡ record { verdict = Fine; bodies = i + 1; shells = sat + length y; facets = at + length (joined y) } = t.after ∙ ap (λ r. after_body r.verdict (length gs) i r.shells r.facets) q.0 in
-          let c : b' ≡ set b i (length y) = t.count ∙ ap (set b i) (ap (λ r. r.shells - sat) q.0 ∙ omega arith) in
-          subst (λ n. Standing x₀ s₀ b₀ x' s' b' n.verdict n.bodies n.shells n.facets × (i < n.bodies)) (sym k) (made y x' s' b' e q.1 q.2 c q.3 q.4, omega arith)
-      step_by (refused r) x' s' b' n e t =
-          let k : n ≡ record { verdict = Refused r; bodies = length gs; shells = sat; facets = at } = t.after ∙ ap (λ r. after_body r.verdict (length gs) i r.shells r.facets) t.body in
-          subst (λ n. Standing x₀ s₀ b₀ x' s' b' n.verdict n.bodies n.shells n.facets × (i < n.bodies)) (sym k)
-          ((refl, sym w.left ∙ ap (each (body_of volume fs) w.done) next ∙ each_stop (body_of volume fs) w.done g (drop (i + 1) gs) r e), h)
+          let c : b' ≡ set b i (length y) = t.count (record { facets = at + length (joined y); shells = sat + length y }) q.0 ∙ ap (set b i) (omega arith) in
+          subst (Standing x₀ s₀ b₀ x' s' b' (i + 1)) (sym q.0) (made y x' s' b' e q.1 q.2 c q.3 q.4)
+      step_by (Err r) x' s' b' n e t =
+          subst (Standing x₀ s₀ b₀ x' s' b' (i + 1)) (sym t.body) (sym w.left ∙ ap (each (body_of volume fs) w.done) next ∙ each_stop (body_of volume fs) w.done g (drop (i + 1) gs) r e)
 
-      pub part_step : (x' s' b' : List ℕ) (n : Fused) → Stepped (body_of volume fs (get_or gs i [])) (length (faces_of fs (get_or gs i []))) x s b (length gs) i sat at x' s' b' n → Standing x₀ s₀ b₀ x' s' b' n.verdict n.bodies n.shells n.facets × (i < n.bodies)
+      pub part_step : (x' s' b' : List ℕ) (n : Outcome Made) → Stepped (body_of volume fs (get_or gs i [])) (length (faces_of fs (get_or gs i []))) x s b i sat at x' s' b' n → Standing x₀ s₀ b₀ x' s' b' (i + 1) n
       part_step x' s' b' n t = step_by (body_of volume fs g) x' s' b' n refl t

@@ -11,60 +11,18 @@ ghost use Rattle.interfaces.specs.Facets.{facets_of};
 ghost use Rattle.volume.specs.Shell.{Points};
 ghost use Rattle.cavities.specs.Steps.{volume_of};
 ghost use Rattle.fusing.specs.Bench.{Cycles, Bench};
-ghost use Rattle.assembly.specs.Answer.{Laid, after_body, ended_as};
+ghost use Rattle.assembly.specs.Answer.{Laid};
 ghost use Rattle.assembly.specs.Walk.{Stepped};
 
 use fusing::Made;
-use refusal::{Refusal, Verdict};
+use refusal::Refusal;
 
-// A verdict, and how many bodies, shells and facets are written.
+// How many bodies, shells and facets are written.
 #[derive(Clone, Copy)]
 pub struct Fused {
-    pub verdict: Verdict,
     pub bodies: usize,
     pub shells: usize,
     pub facets: usize,
-}
-
-// A refusal ends the walk over g bodies.
-fn after_body(verdict: Verdict, g: usize, i: usize, shells: usize, facets: usize) -> Fused
-    requires { i < g }
-    ensures { result ≡ after_body verdict g i shells facets }
-{
-    match verdict {
-        Verdict::Fine => Fused {
-            verdict: Verdict::Fine,
-            bodies: i + 1,
-            shells,
-            facets,
-        },
-        Verdict::Refused(r) => Fused {
-            verdict: Verdict::Refused(r),
-            bodies: g,
-            shells,
-            facets,
-        },
-    }
-}
-
-// A refusal has no bodies.
-fn ended(verdict: Verdict, bodies: usize, shells: usize, facets: usize) -> Fused
-    ensures { result ≡ ended_as verdict bodies shells facets }
-{
-    match verdict {
-        Verdict::Fine => Fused {
-            verdict: Verdict::Fine,
-            bodies,
-            shells,
-            facets,
-        },
-        Verdict::Refused(r) => Fused {
-            verdict: Verdict::Refused(r),
-            bodies: 0,
-            shells: 0,
-            facets: 0,
-        },
-    }
 }
 
 // The body of the cells cells[cuts[i]..cuts[i + 1]] goes behind those of the i groups before.
@@ -92,11 +50,11 @@ fn next_body(
     sat: usize,
     shells: &mut [u64],
     i: usize,
-) -> Fused
+) -> Result<Made, Refusal>
     requires points { Points points.now v.now × Cycles v.now starts.now f × (f ≤ length owners.now) × (ext.now ≡ exterior (facets_of v.now starts.now owners.now f)) }
     requires bench { Bench v.now f faces.old d.old k.old s.old ord.old ends.old nodes.old marks.old }
     requires starts { Starts cells.now cuts.now g × (i < g) × (i < length shells.old) × (at + length (faces_of (facets_of v.now starts.now owners.now f) (row cells.now cuts.now i)) ≤ length out.old) × (sat + length (faces_of (facets_of v.now starts.now owners.now f) (row cells.now cuts.now i)) ≤ length sizes.old) }
-    ensures { Stepped (body_of (volume_of points.now v.now starts.now) (facets_of v.now starts.now owners.now f) (row cells.now cuts.now i)) (length (faces_of (facets_of v.now starts.now owners.now f) (row cells.now cuts.now i))) out.old sizes.old shells.old g i sat at out.new sizes.new shells.new result }
+    ensures { Stepped (body_of (volume_of points.now v.now starts.now) (facets_of v.now starts.now owners.now f) (row cells.now cuts.now i)) (length (faces_of (facets_of v.now starts.now owners.now f) (row cells.now cuts.now i))) out.old sizes.old shells.old i sat at out.new sizes.new shells.new result }
 {
     let a = cuts[i] as usize;
     let e = cuts[i + 1] as usize;
@@ -120,12 +78,9 @@ fn next_body(
         at,
         sizes,
         sat,
-    );
-    let verdict = r.verdict;
-    let more = r.shells;
-    let last = r.facets;
-    shells[i] = (more - sat) as u64;
-    after_body(verdict, g, i, more, last)
+    )?;
+    shells[i] = (r.shells - sat) as u64;
+    Ok(r)
 }
 
 // The bodies of g groups of cells, one behind another.
@@ -150,30 +105,27 @@ pub fn list_bodies(
     out: &mut [u64],
     sizes: &mut [u64],
     shells: &mut [u64],
-) -> Fused
+) -> Result<Fused, Refusal>
     requires points { Points points.now v.now × Cycles v.now starts.now f × (f ≤ length owners.now) × (ext.now ≡ exterior (facets_of v.now starts.now owners.now f)) }
     requires bench { Bench v.now f faces.old d.old k.old s.old ord.old ends.old nodes.old marks.old }
     requires starts { Starts cells.now cuts.now g × (g ≤ length shells.old) × (sum (λ c. length (faces_of (facets_of v.now starts.now owners.now f) c)) (rows cells.now cuts.now g) ≤ length out.old) × (sum (λ c. length (faces_of (facets_of v.now starts.now owners.now f) c)) (rows cells.now cuts.now g) ≤ length sizes.old) }
     ensures { Laid (each (body_of (volume_of points.now v.now starts.now) (facets_of v.now starts.now owners.now f)) [] (rows cells.now cuts.now g)) out.old sizes.old shells.old out.new sizes.new shells.new result }
 {
-    let mut m = Fused {
-        verdict: Verdict::Fine,
-        bodies: 0,
-        shells: 0,
+    let mut m = Made {
         facets: 0,
+        shells: 0,
     };
-    while m.bodies < g {
+    for i in 0..g {
         let at = m.facets;
         let sat = m.shells;
-        let i = m.bodies;
         m = next_body(
             points, v, starts, owners, f, ext, cells, cuts, g, faces, d, k, s, ord, ends, nodes,
             marks, out, at, sizes, sat, shells, i,
-        );
+        )?;
     }
-    let verdict = m.verdict;
-    let bodies = m.bodies;
-    let count = m.shells;
-    let facets = m.facets;
-    ended(verdict, bodies, count, facets)
+    Ok(Fused {
+        bodies: g,
+        shells: m.shells,
+        facets: m.facets,
+    })
 }

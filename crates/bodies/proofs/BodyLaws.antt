@@ -1,8 +1,8 @@
 -- Two listed facets are in one body exactly when their cells connect through shared facets.
-use Rattle.std.specs.Prelude.{◌≡◌, refl, ◌↔◌, List, [], ◌∷◌, ℕ, ◌≤◌, ◌<◌, length}
+use Rattle.std.specs.Prelude.{◌≡◌, refl, ◌↔◌, List, [], ◌∷◌, ℕ, ◌≤◌, ◌<◌, length, Ok}
 use Rattle.std.proofs.Common.{◌∙◌, arith}
 use mathlib.Mathlib.Logic.Relation.{ReflTransGenᴰ}
-use Rattle.refusal.specs.Outcome.{Outcome, ok}
+use Rattle.refusal.specs.Outcome.{Outcome}
 use Rattle.sums.specs.Sum.{sum, hit, occ, pick, ◌∈◌, Each}
 use Rattle.sums.specs.ComponentLaws.{Reach, Class}
 use Rattle.sums.specs.Keys.{order, users}
@@ -16,20 +16,20 @@ use Rattle.bodies.proofs.ListLaws.{size, cells, listed_weight, body_made}
 use Rattle.bodies.specs.BodyLaws.{Joined, OneBody}
 
 -- Every key passed its test.
-pub users_judged : (fs : List Facet) → check_facets fs ≡ ok tt → (i : ℕ) → i < length fs → judge_users fs (users (keys fs) i) ≡ ok tt
+pub users_judged : (fs : List Facet) → check_facets fs ≡ Ok tt → (i : ℕ) → i < length fs → judge_users fs (users (keys fs) i) ≡ Ok tt
 unfolding check_facets
-users_judged fs e i h = each_in (λ i. judge_users fs (users (keys fs) i) ≡ ok tt) (order (keys fs)) i
+users_judged fs e i h = each_in (λ i. judge_users fs (users (keys fs) i) ≡ Ok tt) (order (keys fs)) i
     (walk_ok (λ i. judge_users fs (users (keys fs) i)) (order (keys fs)) tt e)
     (omega (arith, sum_order (hit i) (keys fs), full_hit i (length (keys fs)) (omega (arith, size fs))))
 
-two_users : (fs : List Facet) (l : List ℕ) → judge_users fs l ≡ ok tt → length l ≤ 2
+two_users : (fs : List Facet) (l : List ℕ) → judge_users fs l ≡ Ok tt → length l ≤ 2
 unfolding judge_users
 two_users fs [] e = omega arith
 two_users fs (a ∷ []) e = omega arith
 two_users fs (a ∷ b ∷ []) e = omega arith
 two_users fs (a ∷ b ∷ c ∷ l) e = let z : ◌≡◌ {A = ℕ} 0 1 = cc in absurd (omega arith)
 
-pub two_keys : (fs : List Facet) → check_facets fs ≡ ok tt → Two (keys fs)
+pub two_keys : (fs : List Facet) → check_facets fs ≡ Ok tt → Two (keys fs)
 two_keys fs e i h = two_users fs (users (keys fs) i) (users_judged fs e i (omega (arith, size fs)))
 
 -- A facet is in a body exactly when it is listed and its cell is in the body's group.
@@ -50,7 +50,7 @@ joined_reach fs two c d ReflTransGenᴰ.refl = ReflTransGenᴰ.refl
 joined_reach fs two c d (ReflTransGenᴰ.tail {b = b} p h) = ReflTransGenᴰ.tail (joined_reach fs two c b p) (meet_near (keys fs) (cell_of fs) two b d h)
 
 module _ (volume : List ℕ → Outcome Sense) (fs : List Facet) (n : ℕ) (bs : Bodies) (valid : Valid fs n) (a : Answered volume fs n bs) where
-  one_body : (c : List ℕ) (b : List (List ℕ)) → body_of volume fs c ≡ ok b → Class (adjacency fs) c → OneBody fs bs b
+  one_body : (c : List ℕ) (b : List (List ℕ)) → body_of volume fs c ≡ Ok b → Class (adjacency fs) c → OneBody fs bs b
   one_body c b e cl i j hi hj =
       let m = body_made volume fs c b e in
       let p = (in_body volume fs c b m i).0 hi in (

@@ -1,12 +1,12 @@
 -- DEMAND 3, clause by clause, in one record about an answer of fusing.
-use Rattle.std.specs.Prelude.{◌≡◌, ◌⊎◌, ◌≢◌, Bool, List, [], ◌∷◌, ◌++◌, ℕ, ◌+◌, ◌*◌, ◌≤◌, length, eqb}
+use Rattle.std.specs.Prelude.{◌≡◌, ◌⊎◌, ◌≢◌, Bool, List, [], ◌∷◌, ◌++◌, ℕ, ◌+◌, ◌*◌, ◌≤◌, length, eqb, Ok, Err}
 use Rattle.std.proofs.Math.Path.{refl, sym, ap, subst}
 use Rattle.std.proofs.Common.{◌∙◌, inl, inr, arith}
 use Rattle.std.proofs.Math.Bool.{true, false, not}
 use mathlib.Mathlib.Logic.Relation.{ReflTransGenᴰ}
 use Rattle.std.proofs.lemmas.List.{length-map}
 use Rattle.std.proofs.Math.Dec.{T, eqb_refl}
-use Rattle.refusal.specs.Outcome.{Outcome, ok, refused}
+use Rattle.refusal.specs.Outcome.{Outcome}
 use Rattle.refusal.specs.Laws.{unless_ok}
 use Rattle.refusal.specs.Tests.{or_false}
 use Rattle.sums.specs.Sum.{sum, sum_one, hit, occ, Each}
@@ -29,15 +29,15 @@ use Rattle.bodies.proofs.Full.{each_keep, each_shell, full_body, only_facets}
 use Rattle.bodies.specs.Demand.{Beside, Shelled, IsBody, Interface, Demand}
 
 -- ---- the parts
-is_out : (s : Outcome Sense) → 1 ≤ is_outward s → s ≡ ok outward
-is_out (ok outward) h = refl
-is_out (ok inward) h = absurd (omega arith)
-is_out (refused r) h = absurd (omega arith)
+is_out : (s : Outcome Sense) → 1 ≤ is_outward s → s ≡ Ok outward
+is_out (Ok outward) h = refl
+is_out (Ok inward) h = absurd (omega arith)
+is_out (Err r) h = absurd (omega arith)
 
-is_in : (s : Outcome Sense) → 1 ≤ is_inward s → s ≡ ok inward
-is_in (ok outward) h = absurd (omega arith)
-is_in (ok inward) h = refl
-is_in (refused r) h = absurd (omega arith)
+is_in : (s : Outcome Sense) → 1 ≤ is_inward s → s ≡ Ok inward
+is_in (Ok outward) h = absurd (omega arith)
+is_in (Ok inward) h = refl
+is_in (Err r) h = absurd (omega arith)
 
 single : {A : Type 0} (l : List A) → length l ≡ 1 → (x : A) × (l ≡ x ∷ [])
 single [] e = absurd (omega arith)
@@ -70,7 +70,7 @@ module _ (volume : List ℕ → Outcome Sense) (fs : List Facet) (c : List ℕ) 
   is_body =
       let gs = shells_of fs c in
       let o = single (out_of volume gs) m.shells.one in
-      let q : Each (λ g. volume g ≡ ok outward) (o.0 ∷ []) = subst (Each (λ g. volume g ≡ ok outward)) o.1 (each_keep (λ g. volume g ≡ ok outward) (λ g. is_outward (volume g)) gs (λ g h. is_out (volume g) h)) in
+      let q : Each (λ g. volume g ≡ Ok outward) (o.0 ∷ []) = subst (Each (λ g. volume g ≡ Ok outward)) o.1 (each_keep (λ g. volume g ≡ Ok outward) (λ g. is_outward (volume g)) gs (λ g h. is_out (volume g) h)) in
       record {
         shell = each_shell volume fs c b m (Shelled fs b) shells_found;
         edge = body_edges volume fs c b m;
@@ -78,7 +78,7 @@ module _ (volume : List ℕ → Outcome Sense) (fs : List Facet) (c : List ℕ) 
         inner = in_of volume gs;
         parts = m.shells.parts ∙ ap (λ l. l ++ in_of volume gs) o.1;
         out = q.0;
-        inn = each_keep (λ g. volume g ≡ ok inward) (λ g. is_inward (volume g)) gs (λ g h. is_in (volume g) h);
+        inn = each_keep (λ g. volume g ≡ Ok inward) (λ g. is_inward (volume g)) gs (λ g h. is_in (volume g) h);
         facets = m.weight;
         sorted = sorted_keep (keys fs) (λ i. occ (cell_of fs i) c) (exterior fs) (sorted_lone (keys fs));
         found = (sym o.1, refl);
@@ -86,21 +86,21 @@ module _ (volume : List ℕ → Outcome Sense) (fs : List Facet) (c : List ℕ) 
 
 -- what 18 and 19 leave
 module _ (fs : List Facet) where
-  pair_fine : (a b : ℕ) → judge_users fs (a ∷ b ∷ []) ≡ ok tt → (cell_of fs a ≢ cell_of fs b) × (same_cycle (vertices_of fs a) (vertices_of fs b) ≡ true)
+  pair_fine : (a b : ℕ) → judge_users fs (a ∷ b ∷ []) ≡ Ok tt → (cell_of fs a ≢ cell_of fs b) × (same_cycle (vertices_of fs a) (vertices_of fs b) ≡ true)
   unfolding judge_users
   pair_fine a b j =
-      let h = or_false (eqb (cell_of fs a) (cell_of fs b)) (not (same_cycle (vertices_of fs a) (vertices_of fs b))) (unless_ok _ 18 (ok tt) tt j).0 in
+      let h = or_false (eqb (cell_of fs a) (cell_of fs b)) (not (same_cycle (vertices_of fs a) (vertices_of fs b))) (unless_ok _ 18 (Ok tt) tt j).0 in
       (λ q. subst T (ap (eqb (cell_of fs a)) q ∙ h.0) (eqb_refl (cell_of fs a)), turned (same_cycle (vertices_of fs a) (vertices_of fs b)) h.1)
     where
       turned : (t : Bool) → not t ≡ false → t ≡ true
       turned true e = refl
       turned false e = sym e
 
-  interface_of : (i j : ℕ) → judge_users fs (users (keys fs) i) ≡ ok tt → (users (keys fs) i ≡ i ∷ j ∷ []) ⊎ (users (keys fs) i ≡ j ∷ i ∷ []) → Interface fs i j
+  interface_of : (i j : ℕ) → judge_users fs (users (keys fs) i) ≡ Ok tt → (users (keys fs) i ≡ i ∷ j ∷ []) ⊎ (users (keys fs) i ≡ j ∷ i ∷ []) → Interface fs i j
   interface_of i j k (inl e) = let h = pair_fine i j (rw e at k) in record { cells = h.0; turned = inl h.1; alone = ap length e }
   interface_of i j k (inr e) = let h = pair_fine j i (rw e at k) in record { cells = λ q. h.0 (sym q); turned = inr h.1; alone = ap length e }
 
-pub demand : (volume : List ℕ → Outcome Sense) (fs : List Facet) (n : ℕ) → Valid fs n → (bs : Bodies) → fuse volume fs n ≡ ok bs → Demand volume fs n bs
+pub demand : (volume : List ℕ → Outcome Sense) (fs : List Facet) (n : ℕ) → Valid fs n → (bs : Bodies) → fuse volume fs n ≡ Ok bs → Demand volume fs n bs
 demand volume fs n valid bs e =
     let a = answered volume fs n bs e in
     let z = size fs in

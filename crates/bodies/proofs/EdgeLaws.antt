@@ -1,5 +1,5 @@
 -- Each edge of a body is run once each way.
-use Rattle.std.specs.Prelude.{◌≡◌, ◌⊎◌, ◌≢◌, false, length, T, eqb}
+use Rattle.std.specs.Prelude.{◌≡◌, ◌⊎◌, ◌≢◌, false, length, T, eqb, Ok}
 use Rattle.std.proofs.Math.Path.{refl}
 use Rattle.std.proofs.Common.{sym, ap, ap₂, ◌∙◌, subst, inl, inr, ⊎_elim, arith}
 use mathlib.Core.List.{List, [], ◌∷◌, map, head-eq_of_cons-eq, tail-eq_of_cons-eq}
@@ -7,7 +7,7 @@ use Prim.Native.Nat.{ℕ, suc, ◌≤◌, ◌<◌, min, max}
 use Rattle.std.proofs.Math.Decide.{dec_le}
 use Rattle.std.proofs.Math.ListN.{length-map}
 use Rattle.std.proofs.Math.Dec.{eqb_refl}
-use Rattle.refusal.specs.Outcome.{Outcome, ok}
+use Rattle.refusal.specs.Outcome.{Outcome}
 use Rattle.refusal.specs.Laws.{unless_ok, never_ok}
 use Rattle.refusal.specs.Tests.{or_false}
 use Rattle.lists.specs.Walks.{cyclic}
@@ -36,15 +36,15 @@ unfolding pick
 goes_is r = rw (hit_same r.tail) (hit_same r.tip)
 
 -- Every edge passed its test.
-pub edge_judged : (rs : List Run) → check_edges rs ≡ ok tt → (x : ℕ) → x < length rs → judge_edge rs (users (edge_keys rs) x) ≡ ok tt
+pub edge_judged : (rs : List Run) → check_edges rs ≡ Ok tt → (x : ℕ) → x < length rs → judge_edge rs (users (edge_keys rs) x) ≡ Ok tt
 unfolding check_edges
 edge_judged rs fine x h =
     let ks = edge_keys rs in
     let size : length ks ≡ length rs = length-map rs _ in
-    each_in (λ x. judge_edge rs (users ks x) ≡ ok tt) (order ks) x (walk_ok (λ x. judge_edge rs (users ks x)) (order ks) tt fine)
+    each_in (λ x. judge_edge rs (users ks x) ≡ Ok tt) (order ks) x (walk_ok (λ x. judge_edge rs (users ks x)) (order ks) tt fine)
     (omega (arith, sum_order (hit x) ks, full_hit x (length ks) (omega arith)))
 
-module _ (rs : List Run) (fine : check_edges rs ≡ ok tt) where
+module _ (rs : List Run) (fine : check_edges rs ≡ Ok tt) where
   ks : List (List ℕ)
   ks = edge_keys rs
 
@@ -56,7 +56,7 @@ module _ (rs : List Run) (fine : check_edges rs ≡ ok tt) where
   unfolding ks
   size = length-map rs _
 
-  judged : (x : ℕ) → x < length rs → judge_edge rs (users ks x) ≡ ok tt
+  judged : (x : ℕ) → x < length rs → judge_edge rs (users ks x) ≡ Ok tt
   unfolding ks
   judged = edge_judged rs fine
 
@@ -132,11 +132,11 @@ module _ (rs : List Run) (fine : check_edges rs ≡ ok tt) where
   unfolding judge_edge
   other x h = go (users ks x) refl (judged x h)
     where
-      go : (l : List ℕ) → users ks x ≡ l → judge_edge rs l ≡ ok tt → Other x
+      go : (l : List ℕ) → users ks x ≡ l → judge_edge rs l ≡ Ok tt → Other x
       go [] e j = never_ok j
       go (u ∷ []) e j = never_ok j
       go (u ∷ v ∷ []) e j = other_of x u v h e (differ (rises (run_at rs u)) (rises (run_at rs v))
-          (or_false (eqb (run_at rs u).face (run_at rs v).face) (eqb (rises (run_at rs u)) (rises (run_at rs v))) (unless_ok _ 20 (ok tt) tt j).0).1)
+          (or_false (eqb (run_at rs u).face (run_at rs v).face) (eqb (rises (run_at rs u)) (rises (run_at rs v))) (unless_ok _ 20 (Ok tt) tt j).0).1)
       go (u ∷ v ∷ w ∷ l) e j = never_ok j
 
   -- Two runs that go the same way are one.

@@ -2,12 +2,12 @@
 use Rattle.std.proofs.Math.Path.{◌≡◌, refl, sym, ap, subst}
 use Rattle.std.proofs.Common.{◌∙◌}
 use Rattle.std.proofs.Math.Logic.{⊎_elim}
-use Rattle.std.specs.Prelude.{◌≢◌, ℕ, zero, suc, ◌+◌, ◌≤◌, ◌<◌, get_or}
+use Rattle.std.specs.Prelude.{◌≢◌, ℕ, zero, suc, ◌+◌, ◌≤◌, ◌<◌, get_or, Ok, Err}
 use mathlib.Core.List.{List, [], ◌∷◌, ◌++◌, map, append_assoc, append-nil}
 use native.Mathlib.Omega.{arith}
 use Rattle.std.proofs.Math.ListN.{length}
 use Rattle.std.proofs.lemmas.List.{length-map}
-use Rattle.refusal.specs.Outcome.{Outcome, ok, refused, walk, each}
+use Rattle.refusal.specs.Outcome.{Outcome, walk, each}
 use Rattle.refusal.specs.Laws.{then_ok}
 use Rattle.lists.specs.Walks.{cyclic}
 use Rattle.sums.specs.Sum.{sum, hit, hit_cases, hit_same, occ, pick, Each}
@@ -29,12 +29,12 @@ module _ (volume : List ℕ → Outcome Sense) where
     few : length s.outer ≤ 1 → length s'.outer ≤ 1
     all : Each (Certified volume) gs
 
-  outer_free : (o i : List (List ℕ)) (g : List ℕ) (s : Shells) → place_outer o i g ≡ ok s → (o ≡ []) × (s ≡ record { outer = g ∷ []; inner = i })
+  outer_free : (o i : List (List ℕ)) (g : List ℕ) (s : Shells) → place_outer o i g ≡ Ok s → (o ≡ []) × (s ≡ record { outer = g ∷ []; inner = i })
   unfolding place_outer
   outer_free [] i g s e = (refl, cc)
   outer_free (o ∷ os) i g s e = let z : ◌≡◌ {A = ℕ} 0 1 = cc in absurd (omega arith)
 
-  placed_by : (s : Shells) (g : List ℕ) (gs : List (List ℕ)) (s' t : Shells) (w : Sense) → volume g ≡ ok w → place_by s g w ≡ ok t → Placed t gs s' → Placed s (g ∷ gs) s'
+  placed_by : (s : Shells) (g : List ℕ) (gs : List (List ℕ)) (s' t : Shells) (w : Sense) → volume g ≡ Ok w → place_by s g w ≡ Ok t → Placed t gs s' → Placed s (g ∷ gs) s'
   unfolding place_by keep put
   placed_by s g gs s' t outward v p rest =
       let f = outer_free s.outer s.inner g t p in
@@ -57,7 +57,7 @@ module _ (volume : List ℕ → Outcome Sense) where
         all = (rw v refl, rest.all);
       }
 
-  placed : (s : Shells) (gs : List (List ℕ)) (s' : Shells) → walk (place_shell volume) s gs ≡ ok s' → Placed s gs s'
+  placed : (s : Shells) (gs : List (List ℕ)) (s' : Shells) → walk (place_shell volume) s gs ≡ Ok s' → Placed s gs s'
   unfolding walk keep place_shell
   placed s [] s' e =
       let q : s ≡ s' = cc in
@@ -67,12 +67,12 @@ module _ (volume : List ℕ → Outcome Sense) where
       let k = then_ok (volume g) (place_by s g) h.0 h.1 in
       placed_by s g gs s' h.0 k.0 k.1 k.2 (placed h.0 gs s' h.2)
 
-  outer_met : (o i b : List (List ℕ)) → outer_first o i ≡ ok b → (b ≡ o ++ i) × (1 ≤ length o)
+  outer_met : (o i b : List (List ℕ)) → outer_first o i ≡ Ok b → (b ≡ o ++ i) × (1 ≤ length o)
   unfolding outer_first
   outer_met [] i b e = let z : ◌≡◌ {A = ℕ} 0 1 = cc in absurd (omega arith)
   outer_met (o ∷ os) i b e = (cc, omega arith)
 
-  pub ordered : (gs b : List (List ℕ)) → order_shells volume gs ≡ ok b → Ordered volume gs b
+  pub ordered : (gs b : List (List ℕ)) → order_shells volume gs ≡ Ok b → Ordered volume gs b
   unfolding order_shells
   ordered gs b e =
       let h = then_ok (walk (place_shell volume) (record { outer = []; inner = [] }) gs) (λ s. outer_first s.outer s.inner) b e in
@@ -82,9 +82,9 @@ module _ (volume : List ℕ → Outcome Sense) where
 
   weigh : (F : List ℕ → ℕ) (g : List ℕ) (o : Outcome Sense) → is_outward o + is_inward o ≡ 1 → pick (is_outward o) (F g) + pick (is_inward o) (F g) ≡ F g
   unfolding pick
-  weigh F g (ok outward) e = omega arith
-  weigh F g (ok inward) e = omega arith
-  weigh F g (refused r) e = absurd (omega arith)
+  weigh F g (Ok outward) e = omega arith
+  weigh F g (Ok inward) e = omega arith
+  weigh F g (Err r) e = absurd (omega arith)
 
   shells_weight : (F : List ℕ → ℕ) (gs : List (List ℕ)) → Each (Certified volume) gs → sum F (out_of volume gs) + sum F (in_of volume gs) ≡ sum F gs
   unfolding sum keep
@@ -123,7 +123,7 @@ shells_of_weight fs f c =
     ∙ (components_found (length faces) (neighbors (runs fs 0 faces)) (edges_graph fs faces)).once (λ p. f (h p))
     ∙ full_get_d f faces
 
-pub body_made : (volume : List ℕ → Outcome Sense) (fs : List Facet) (c : List ℕ) (b : List (List ℕ)) → body_of volume fs c ≡ ok b → BodyMade volume fs c b
+pub body_made : (volume : List ℕ → Outcome Sense) (fs : List Facet) (c : List ℕ) (b : List (List ℕ)) → body_of volume fs c ≡ Ok b → BodyMade volume fs c b
 unfolding body_of
 body_made volume fs c b e =
     let h = then_ok (check_edges (runs fs 0 (faces_of fs c))) (λ _. order_shells volume (shells_of fs c)) b e in
@@ -188,7 +188,7 @@ pub cells : (fs : List Facet) (n : ℕ) → Valid fs n → Components n (adjacen
 unfolding materials
 cells fs n valid = components_found n (adjacency fs) (cells_graph fs n valid)
 
-pub answered : (volume : List ℕ → Outcome Sense) (fs : List Facet) (n : ℕ) (bs : Bodies) → fuse volume fs n ≡ ok bs → Answered volume fs n bs
+pub answered : (volume : List ℕ → Outcome Sense) (fs : List Facet) (n : ℕ) (bs : Bodies) → fuse volume fs n ≡ Ok bs → Answered volume fs n bs
 unfolding fuse
 answered volume fs n bs e =
     let h = then_ok (check_facets fs) (λ _. each (body_of volume fs) [] (materials fs n)) bs e in

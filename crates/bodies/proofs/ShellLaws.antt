@@ -1,6 +1,6 @@
 -- Two facets of a body are in one shell exactly when they connect through edges inside that body.
 use Rattle.std.proofs.Math.Path.{◌≡◌, sym, ap, subst}
-use Rattle.std.specs.Prelude.{refl, ◌⊎◌, ◌≢◌, get_or}
+use Rattle.std.specs.Prelude.{refl, ◌⊎◌, ◌≢◌, get_or, Ok}
 use Rattle.std.proofs.Common.{◌∙◌, inl, inr}
 use Rattle.std.proofs.Math.Logic.{⊎_elim}
 use mathlib.Core.List.{List, [], ◌∷◌, map, head-eq_of_cons-eq, tail-eq_of_cons-eq}
@@ -10,7 +10,6 @@ use native.Mathlib.Omega.{arith}
 use Rattle.std.proofs.Math.Decide.{dec_lt, dec_le}
 use Rattle.std.proofs.Math.ListN.{length}
 use Rattle.std.proofs.lemmas.List.{length-map}
-use Rattle.refusal.specs.Outcome.{ok}
 use Rattle.lists.specs.Walks.{Pair, cyclic}
 use Rattle.sums.specs.Sum.{sum, hit, hit_cases, hit_same, occ, pick, full, ◌∈◌, Each, none, here, there, cases_in}
 use Rattle.sums.specs.Components.{components}
@@ -91,14 +90,14 @@ module _ (fs : List Facet) where
       (λ r q. record { p = suc q.p; p_in = omega (arith, q.p_in); face_is = omega (arith, q.face_is); in_ring = q.in_ring }) (runs_known (suc k) l))
 
 -- Touching facets are neighbours.
-module _ (fs : List Facet) (faces : List ℕ) (fine : check_edges (runs fs 0 faces) ≡ ok tt) where
+module _ (fs : List Facet) (faces : List ℕ) (fine : check_edges (runs fs 0 faces) ≡ Ok tt) where
   rs : List Run
   rs = runs fs 0 faces
 
   face : ℕ → ℕ
   face x = (run_at rs x).face
 
-  two_runs : (l : List ℕ) → judge_edge rs l ≡ ok tt → length l ≤ 2
+  two_runs : (l : List ℕ) → judge_edge rs l ≡ Ok tt → length l ≤ 2
   unfolding judge_edge
   two_runs [] e = omega arith
   two_runs (a ∷ []) e = omega arith
@@ -264,7 +263,7 @@ groups_in n adj gs c = each_imp (λ g. (p : ℕ) → occ p g ≤ sum (occ p) gs)
     go p m (no h) = absurd (omega (arith, full_zero (hit p) n (λ i l. ⊎_elim (λ c. absurd (omega (arith, c.0))) (λ c. c.1) (hit_cases p i))))
 
 -- The shells of a body.
-pub one_shells : (fs : List Facet) (c : List ℕ) (fine : check_edges (runs fs 0 (faces_of fs c)) ≡ ok tt) → Each (OneShell fs (faces_of fs c) fine) (shells_of fs c)
+pub one_shells : (fs : List Facet) (c : List ℕ) (fine : check_edges (runs fs 0 (faces_of fs c)) ≡ Ok tt) → Each (OneShell fs (faces_of fs c) fine) (shells_of fs c)
 unfolding shells_of rs at
 one_shells fs c fine =
     let faces = faces_of fs c in

@@ -1,6 +1,6 @@
 -- Fusing on small arrangements of boxes: what each refusal and each rule of the order looks like.
-use Rattle.std.specs.Prelude.{◌≡◌, refl, List, [], ◌∷◌, ◌++◌, map, ℕ, zero, suc, ◌+◌, ◌-◌, min, length}
-use Rattle.refusal.specs.Outcome.{Outcome, ok, refuse, walk, each}
+use Rattle.std.specs.Prelude.{◌≡◌, refl, List, [], ◌∷◌, ◌++◌, map, ℕ, zero, suc, ◌+◌, ◌-◌, min, length, Ok}
+use Rattle.refusal.specs.Outcome.{Outcome, refuse, walk, each}
 use Rattle.lists.specs.Walks.{pairs_to, cyclic}
 use Rattle.sums.specs.Keys.{keep, range, sorted, order, users, lone, pairs, nbrs}
 use Rattle.sums.specs.Sum.{bit, hit, less, sum}
@@ -25,29 +25,29 @@ unfolding facet
 tetrahedron c b = map (facet c b) ((0 ∷ 1 ∷ 2 ∷ []) ∷ (0 ∷ 3 ∷ 1 ∷ []) ∷ (1 ∷ 3 ∷ 2 ∷ []) ∷ (0 ∷ 2 ∷ 3 ∷ []) ∷ [])
 
 always : Sense → List ℕ → Outcome Sense
-always s g = ok s
+always s g = Ok s
 
 -- a shell of six facets or more is outward, a smaller one inward
 by_size : List ℕ → Outcome Sense
-by_size g = elim (6 - length g) [ zero ↦ ok outward | suc _ ↦ ok inward ]
+by_size g = elim (6 - length g) [ zero ↦ Ok outward | suc _ ↦ Ok inward ]
 
 -- boxes that share a face: one body of ten facets
-beside : fuse (always outward) (box 0 0 ++ box 1 1) 2 ≡ ok (((4 ∷ 3 ∷ 5 ∷ 11 ∷ 7 ∷ 8 ∷ 9 ∷ 10 ∷ 0 ∷ 2 ∷ []) ∷ []) ∷ [])
+beside : fuse (always outward) (box 0 0 ++ box 1 1) 2 ≡ Ok (((4 ∷ 3 ∷ 5 ∷ 11 ∷ 7 ∷ 8 ∷ 9 ∷ 10 ∷ 0 ∷ 2 ∷ []) ∷ []) ∷ [])
 unfolding box always facet opening
 beside = refl
 
 -- boxes that share only an edge: edges are counted per body, so these are two
-edge_only : fuse (always outward) (box 0 0 ++ box 1 5) 2 ≡ ok (((4 ∷ 3 ∷ 5 ∷ 1 ∷ 0 ∷ 2 ∷ []) ∷ []) ∷ ((10 ∷ 9 ∷ 11 ∷ 7 ∷ 6 ∷ 8 ∷ []) ∷ []) ∷ [])
+edge_only : fuse (always outward) (box 0 0 ++ box 1 5) 2 ≡ Ok (((4 ∷ 3 ∷ 5 ∷ 1 ∷ 0 ∷ 2 ∷ []) ∷ []) ∷ ((10 ∷ 9 ∷ 11 ∷ 7 ∷ 6 ∷ 8 ∷ []) ∷ []) ∷ [])
 unfolding box always facet opening
 edge_only = refl
 
 -- bodies by lowest cell, although the second box's facets come first by their keys
-by_cell : fuse (always outward) (box 1 0 ++ box 0 2) 2 ≡ ok (((10 ∷ 9 ∷ 11 ∷ 7 ∷ 6 ∷ 8 ∷ []) ∷ []) ∷ ((4 ∷ 3 ∷ 5 ∷ 1 ∷ 0 ∷ 2 ∷ []) ∷ []) ∷ [])
+by_cell : fuse (always outward) (box 1 0 ++ box 0 2) 2 ≡ Ok (((10 ∷ 9 ∷ 11 ∷ 7 ∷ 6 ∷ 8 ∷ []) ∷ []) ∷ ((4 ∷ 3 ∷ 5 ∷ 1 ∷ 0 ∷ 2 ∷ []) ∷ []) ∷ [])
 unfolding box always facet opening
 by_cell = refl
 
 -- the outward shell first, then the inward ones as found
-outer_first_lem : fuse by_size (tetrahedron 0 30 ++ box 0 0 ++ tetrahedron 0 40) 1 ≡ ok (((8 ∷ 7 ∷ 9 ∷ 5 ∷ 4 ∷ 6 ∷ []) ∷ (0 ∷ 2 ∷ 3 ∷ 1 ∷ []) ∷ (10 ∷ 12 ∷ 13 ∷ 11 ∷ []) ∷ []) ∷ [])
+outer_first_lem : fuse by_size (tetrahedron 0 30 ++ box 0 0 ++ tetrahedron 0 40) 1 ≡ Ok (((8 ∷ 7 ∷ 9 ∷ 5 ∷ 4 ∷ 6 ∷ []) ∷ (0 ∷ 2 ∷ 3 ∷ 1 ∷ []) ∷ (10 ∷ 12 ∷ 13 ∷ 11 ∷ []) ∷ []) ∷ [])
 unfolding box tetrahedron by_size facet opening
 outer_first_lem = refl
 

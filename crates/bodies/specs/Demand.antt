@@ -1,8 +1,8 @@
 -- DEMAND 3, clause by clause, in one record about an answer of fusing.
-use Rattle.std.specs.Prelude.{◌≡◌, ◌⊎◌, ◌≢◌, ◌↔◌, List, [], ◌∷◌, ℕ, ◌+◌, ◌*◌, ◌≤◌, ◌<◌, length}
+use Rattle.std.specs.Prelude.{◌≡◌, ◌⊎◌, ◌≢◌, ◌↔◌, List, [], ◌∷◌, ℕ, ◌+◌, ◌*◌, ◌≤◌, ◌<◌, length, Ok}
 use Rattle.std.proofs.Math.Bool.{true}
 use mathlib.Mathlib.Logic.Relation.{ReflTransGenᴰ}
-use Rattle.refusal.specs.Outcome.{Outcome, ok}
+use Rattle.refusal.specs.Outcome.{Outcome}
 use Rattle.sums.specs.Sum.{sum, occ, ◌∈◌, Each}
 use Rattle.sums.specs.Keys.{users}
 use Rattle.sums.specs.ComponentLaws.{Components}
@@ -37,8 +37,8 @@ pub record IsBody (volume : List ℕ → Outcome Sense) (fs : List Facet) (mater
   pub outer : List ℕ
   pub inner : List (List ℕ)
   pub parts : b ≡ outer ∷ inner
-  pub out : volume outer ≡ ok outward
-  pub inn : Each (λ g. volume g ≡ ok inward) inner
+  pub out : volume outer ≡ Ok outward
+  pub inn : Each (λ g. volume g ≡ Ok inward) inner
   -- its facets are those of its cells that no other facet meets
   pub facets : (f : ℕ → ℕ) → sum (sum f) b ≡ sum f (faces_of fs material)
   -- the order inside a body: its facets by their keys, its inward shells as `components` finds them

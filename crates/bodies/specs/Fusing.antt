@@ -1,6 +1,6 @@
 -- Fusing, after `conform`: which facets are listed, in which bodies and shells, in which order, and which refusal comes first. Definitions only.
-use Rattle.std.specs.Prelude.{Bool, true, false, not, ◌||◌, ◌&&◌, List, [], ◌∷◌, ◌++◌, map, ℕ, zero, suc, ◌+◌, ◌-◌, ◌%◌, min, max, length, get_or, eqb}
-use Rattle.refusal.specs.Outcome.{Outcome, ok, refuse, then, unless, walk, each}
+use Rattle.std.specs.Prelude.{Bool, true, false, not, ◌||◌, ◌&&◌, List, [], ◌∷◌, ◌++◌, map, ℕ, zero, suc, ◌+◌, ◌-◌, ◌%◌, min, max, length, get_or, eqb, Ok}
+use Rattle.refusal.specs.Outcome.{Outcome, refuse, then, unless, walk, each}
 use Rattle.lists.specs.Walks.{Pair, cyclic}
 use Rattle.sums.specs.Sum.{less, occ}
 use Rattle.sums.specs.Keys.{keep, range, sorted, order, users, lone, pairs, nbrs}
@@ -64,9 +64,9 @@ module _ (fs : List Facet) where
 
   -- 18 and 19, of those that share a key
   unfoldable pub judge_users : List ℕ → Outcome (Unit {0})
-  judge_users [] = ok tt
-  judge_users (a ∷ []) = ok tt
-  judge_users (a ∷ b ∷ []) = unless (eqb (cell_of a) (cell_of b) || not (same_cycle (vertices_of a) (vertices_of b))) 18 (ok tt)
+  judge_users [] = Ok tt
+  judge_users (a ∷ []) = Ok tt
+  judge_users (a ∷ b ∷ []) = unless (eqb (cell_of a) (cell_of b) || not (same_cycle (vertices_of a) (vertices_of b))) 18 (Ok tt)
   judge_users (a ∷ b ∷ c ∷ l) = refuse 19
 
   unfoldable pub check_facets : Outcome (Unit {0})
@@ -106,7 +106,7 @@ module _ (rs : List Run) where
   unfoldable pub judge_edge : List ℕ → Outcome (Unit {0})
   judge_edge [] = refuse 20
   judge_edge (x ∷ []) = refuse 20
-  judge_edge (x ∷ y ∷ []) = unless (eqb (run_at x).face (run_at y).face || eqb (rises (run_at x)) (rises (run_at y))) 20 (ok tt)
+  judge_edge (x ∷ y ∷ []) = unless (eqb (run_at x).face (run_at y).face || eqb (rises (run_at x)) (rises (run_at y))) 20 (Ok tt)
   judge_edge (x ∷ y ∷ z ∷ l) = refuse 20
 
   unfoldable pub check_edges : Outcome (Unit {0})
@@ -126,16 +126,16 @@ pub record Shells : Type 0 where
   pub inner : List (List ℕ)
 
 unfoldable pub place_outer : List (List ℕ) → List (List ℕ) → List ℕ → Outcome Shells
-place_outer [] inner g = ok (record { outer = g ∷ []; inner = inner })
+place_outer [] inner g = Ok (record { outer = g ∷ []; inner = inner })
 place_outer (o ∷ os) inner g = refuse 22
 
 unfoldable pub place_by : Shells → List ℕ → Sense → Outcome Shells
 place_by s g outward = place_outer s.outer s.inner g
-place_by s g inward = ok (record { outer = s.outer; inner = s.inner ++ (g ∷ []) })
+place_by s g inward = Ok (record { outer = s.outer; inner = s.inner ++ (g ∷ []) })
 
 unfoldable pub outer_first : List (List ℕ) → List (List ℕ) → Outcome (List (List ℕ))
 outer_first [] inner = refuse 23
-outer_first (o ∷ os) inner = ok ((o ∷ os) ++ inner)
+outer_first (o ∷ os) inner = Ok ((o ∷ os) ++ inner)
 
 -- The sign of a shell's volume is a parameter: 21 where it is not certified.
 module _ (volume : List ℕ → Outcome Sense) where

@@ -1,9 +1,9 @@
 -- What fusing lists: the facets that no other facet meets, each once.
 use Rattle.std.proofs.Math.Path.{◌≡◌}
-use Rattle.std.specs.Prelude.{ℕ, ◌+◌, ◌<◌}
+use Rattle.std.specs.Prelude.{ℕ, ◌+◌, ◌<◌, Ok, Err}
 use mathlib.Core.List.{List, ◌++◌}
 use Rattle.std.proofs.Math.ListN.{length}
-use Rattle.refusal.specs.Outcome.{Outcome, ok, refused}
+use Rattle.refusal.specs.Outcome.{Outcome}
 use Rattle.sums.specs.Sum.{sum, occ, Each}
 use Rattle.sums.specs.Keys.{keep, key}
 use Rattle.bodies.specs.Fusing.{Facet, cell_of, keys, faces_of, runs, check_facets, check_edges, Sense, outward, inward, shells_of, body_of, materials, Bodies}
@@ -11,14 +11,14 @@ use Rattle.bodies.specs.Passed.{Made}
 
 -- ---- the shells of a body are the outward one and the inward ones
 abbrev pub is_outward : Outcome Sense → ℕ
-is_outward (ok outward) = 1
-is_outward (ok inward) = 0
-is_outward (refused r) = 0
+is_outward (Ok outward) = 1
+is_outward (Ok inward) = 0
+is_outward (Err r) = 0
 
 abbrev pub is_inward : Outcome Sense → ℕ
-is_inward (ok outward) = 0
-is_inward (ok inward) = 1
-is_inward (refused r) = 0
+is_inward (Ok outward) = 0
+is_inward (Ok inward) = 1
+is_inward (Err r) = 0
 
 module _ (volume : List ℕ → Outcome Sense) where
   abbrev pub out_of : List (List ℕ) → List (List ℕ)
@@ -39,7 +39,7 @@ module _ (volume : List ℕ → Outcome Sense) where
 
 -- What a body is made of.
 pub record BodyMade (volume : List ℕ → Outcome Sense) (fs : List Facet) (c : List ℕ) (b : List (List ℕ)) : Type 0 where
-  pub edges_fine : check_edges (runs fs 0 (faces_of fs c)) ≡ ok tt
+  pub edges_fine : check_edges (runs fs 0 (faces_of fs c)) ≡ Ok tt
   pub shells : Ordered volume (shells_of fs c) b
   -- any weight of a body is that of its facets
   pub weight : (f : ℕ → ℕ) → sum (sum f) b ≡ sum f (faces_of fs c)
@@ -57,5 +57,5 @@ key_of fs i = key (keys fs) i
 
 -- What an answer tells.
 pub record Answered (volume : List ℕ → Outcome Sense) (fs : List Facet) (n : ℕ) (bs : Bodies) : Type 0 where
-  pub facets_fine : check_facets fs ≡ ok tt
+  pub facets_fine : check_facets fs ≡ Ok tt
   pub made : Made (body_of volume fs) (materials fs n) bs

@@ -2,23 +2,12 @@
 
 // The solid of a cell, as an answer has it: the points and faces of `indexed`, where they pass the check without the counts.
 ghost use Rattle.std.specs.Prelude.{◌≡◌, length};
-ghost use Rattle.refusal.specs.Outcome.{heard};
 ghost use Rattle.room.specs.Rooms.{cell_at, counts_at};
-ghost use Rattle.indexed.specs.Stored.{counted, Stored, Fits};
+ghost use Rattle.indexed.specs.Stored.{Stored, Fits};
 ghost use Rattle.built.specs.Built.{built, Bench};
 
-use indexed::Counted;
-use refusal::Verdict;
+use refusal::Refusal;
 use space::Precision;
-
-fn judged(v: Verdict, m: usize) -> Counted
-    ensures { counted result ≡ heard v m }
-{
-    match v {
-        Verdict::Fine => Counted::Made(m),
-        Verdict::Refused(e) => Counted::Refused(e),
-    }
-}
 
 // The points of the cell of n faces at a place, each once, go to `points`, and the places of its faces' corners to `places`; returns how
 // many points there are. The slices behind them are work memory.
@@ -37,17 +26,14 @@ pub fn build(
     work: &mut [u64],
     nodes: &mut [u64],
     cuts: &mut [u64],
-) -> Counted
+) -> Result<usize, Refusal>
     requires fits { Fits s.now counts.now at 0 n points.old places.old }
     requires bench { Bench (length places.old) n ends.old head.old next.old seen.old work.old nodes.old cuts.old }
     ensures { Stored (built t (cell_at s.now at (counts_at counts.now 0 n))) points.old places.old points.new places.new result }
 {
-    let found = indexed::indexed(t, s, at, counts, 0, n, points, places);
-    let Counted::Made(m) = found else {
-        return found;
-    };
-    let v = solid_check::check(
+    let m = indexed::indexed(t, s, at, counts, 0, n, points, places)?;
+    solid_check::check(
         false, t, points, m, places, counts, n, ends, head, next, seen, work, nodes, cuts,
-    );
-    judged(v, m)
+    )?;
+    Ok(m)
 }

@@ -1,6 +1,6 @@
 -- The remainder of a cell and the pieces outside, plane by plane, with the room (12). Definitions only.
-use Rattle.std.specs.Prelude.{ℕ, List}
-use Rattle.refusal.specs.Outcome.{Outcome, ok, then}
+use Rattle.std.specs.Prelude.{ℕ, List, Ok}
+use Rattle.refusal.specs.Outcome.{Outcome, then}
 use Rattle.space.specs.declared.Plane.{Plane}
 use Rattle.space.specs.declared.Precision.{Precision}
 use Rattle.space.specs.Shapes.{Face, Cell, Part, nothing, part}
@@ -14,7 +14,7 @@ pub record Carving : Type 0 where
   pub out : List Cell
 
 abbrev pub carving : Part → List Cell → Outcome Carving
-carving rest out = ok (record { rest = rest; out = out })
+carving rest out = Ok (record { rest = rest; out = out })
 
 -- 01: "In `difference` the outside piece is cut before the remainder"; o is the opposite of the plane p
 unfoldable pub carve_on : Precision → ℕ → Plane → Plane → Cell → List Cell → Outcome Carving
@@ -33,7 +33,7 @@ unfoldable pub carve : Precision → ℕ → Carving → Face → Outcome Carvin
 carve t room s f = carve_part t room s.out s.rest f.plane
 
 unfoldable pub clip_part : Precision → ℕ → Plane → Part → Outcome Part
-clip_part t room p nothing = ok nothing
+clip_part t room p nothing = Ok nothing
 clip_part t room p (part c) = clip t room p c
 
 unfoldable pub clip_face : Precision → ℕ → Part → Face → Outcome Part

@@ -1,5 +1,5 @@
 -- Laws of the remainder and of the pieces, in the words of the code.
-use Rattle.std.specs.Prelude.{◌≡◌, true, false, List, ℕ, ◌+◌, ◌*◌, ◌≤◌, Float}
+use Rattle.std.specs.Prelude.{◌≡◌, true, false, List, ℕ, ◌+◌, ◌*◌, ◌≤◌, Float, Ok, Err, Some, None}
 use Rattle.std.proofs.Math.Path.{refl, sym, ap, subst}
 use Rattle.std.proofs.Common.{◌∙◌, true≢false, arith}
 use Rattle.std.proofs.lemmas.Bool.{false≢true}
@@ -7,25 +7,18 @@ use Rattle.std.proofs.Math.ListN.{length, take}
 use Rattle.std.proofs.lemmas.List.Edits.{sets}
 use Rattle.std.proofs.Math.Seq.{length-sets}
 use Rattle.refusal.specs.declared.Refusal.{Refusal}
-use Rattle.refusal.specs.declared.Verdict.{Verdict}
-use Rattle.refusal.specs.declared.Verdict.TheVariants.{Fine, Refused}
-use Rattle.refusal.specs.Outcome.{Outcome, ok, refused, then, heard}
+use Rattle.refusal.specs.Outcome.{Outcome, then, heard}
 use Rattle.refusal.specs.Laws.{never_ok}
 use Rattle.lists.specs.Laws.{front_stored}
 use Rattle.space.specs.declared.Plane.{Plane}
-use Rattle.space.specs.declared.Planed.{Planed}
-use Rattle.space.specs.declared.Planed.TheVariants as P
 use Rattle.space.specs.declared.Precision.{Precision}
-use Rattle.space.specs.Frames.{planed}
 use Rattle.space.specs.Shapes.{Cell, Part, nothing, part}
 use Rattle.side.specs.Sides.{opposite_of}
 use Rattle.room.specs.Rooms.{cell_floats, cell_counts, cell_at, counts_at, Within}
 use Rattle.room.specs.Laws.{length_cell_floats, length_cell_counts, cell_stored, within_stored}
 use Rattle.room.specs.Steps.{then_then}
-use Rattle.clip.specs.declared.Clipped.{Clipped}
-use Rattle.clip.specs.declared.Clipped.TheVariants as C
 use Rattle.clip.specs.Cuts.{clip}
-use Rattle.clip.specs.Clips.{Wide, told, Sized, Clips}
+use Rattle.clip.specs.Clips.{Clipped, Wide, told, Sized, Clips}
 use Rattle.clip.specs.Bounds.{part_wide, part_some, part_fit}
 use Rattle.stack.specs.declared.Stack.{Stack}
 use Rattle.stack.specs.Stacks.{cells_at, add_cut, stack_of, list_at, Listed}
@@ -46,18 +39,18 @@ module _ (c : Cell) (d : List Float) (n : List ℕ) (h : length (cell_floats c) 
 
 module _ (t : Precision) (room : ℕ) (w : Plane) (c : Cell) where
   -- what a cut answers fits a room
-  pub clip_inside : (p : Clipped) (s : List Float) (at : ℕ) (k : List ℕ) (i : ℕ) (s' : List Float) (k' : List ℕ) (d n : ℕ) →
+  pub clip_inside : (p : Outcome Clipped) (s : List Float) (at : ℕ) (k : List ℕ) (i : ℕ) (s' : List Float) (k' : List ℕ) (d n : ℕ) →
       Clips (clip t room w c) p s at k i s' k' → 3 * room + 1664 ≤ d → 128 ≤ n → Inside d n p
   unfolding told Sized Inside
-  clip_inside C.Nothing s at k i s' k' d n x ld ln = tt
-  clip_inside (C.Part f m) s at k i s' k' d n x ld ln =
+  clip_inside (Ok None) s at k i s' k' d n x ld ln = tt
+  clip_inside (Ok (Some f)) s at k i s' k' d n x ld ln =
       let b = part_fit t room w c x.cell (sym x.is) in
       (omega (arith, x.sized.0, x.sized.1, b.few, b.fit), omega (arith, x.sized.0, b.few))
-  clip_inside (C.Refused r) s at k i s' k' d n x ld ln = tt
+  clip_inside (Err r) s at k i s' k' d n x ld ln = tt
 
   module _ (s : List Float) (k : List ℕ) (s' : List Float) (k' : List ℕ) (d : List Float) (n : List ℕ) (a : Wide c) (ls : Place room s k) (ld : Place room d n) where
-    part_kept : (f m : ℕ) → Clips (clip t room w c) (C.Part f m) s 0 k 0 s' k' →
-        Sits f (sets d 0 (take (13 * f + 3 * m) s')) (sets n 0 (take f k')) × (clip t room w c ≡ ok (part (cell_at (sets d 0 (take (13 * f + 3 * m) s')) 0 (counts_at (sets n 0 (take f k')) 0 f))))
+    part_kept : (f m : ℕ) → Clips (clip t room w c) (Ok (Some (record { faces = f; corners = m }))) s 0 k 0 s' k' →
+        Sits f (sets d 0 (take (13 * f + 3 * m) s')) (sets n 0 (take f k')) × (clip t room w c ≡ Ok (part (cell_at (sets d 0 (take (13 * f + 3 * m) s')) 0 (counts_at (sets n 0 (take f k')) 0 f))))
     unfolding told Sized
     part_kept f m x =
         let b = part_fit t room w c x.cell (sym x.is) in
@@ -84,44 +77,44 @@ module _ (t : Precision) (room : ℕ) (w : Plane) (c : Cell) where
           subst (λ y. Sits y (sets d 0 (take (13 * f + 3 * m) s')) (sets n 0 (take f k'))) (sym x.sized.0)
               (subst (λ y. Sits (length x.cell) (sets d 0 y) (sets n 0 (take f k'))) (sym e1)
               (subst (λ y. Sits (length x.cell) (sets d 0 (cell_floats x.cell)) (sets n 0 y)) (sym e2) base)),
-          sym x.is ∙ ap (λ y. ok (part y)) (sym q)
-              ∙ ap (λ y. ok (part (cell_at (sets d 0 (cell_floats x.cell)) 0 (counts_at (sets n 0 y) 0 (length x.cell))))) (sym e2)
-              ∙ ap (λ y. ok (part (cell_at (sets d 0 y) 0 (counts_at (sets n 0 (take f k')) 0 (length x.cell))))) (sym e1)
-              ∙ ap (λ y. ok (part (cell_at (sets d 0 (take (13 * f + 3 * m) s')) 0 (counts_at (sets n 0 (take f k')) 0 y)))) (sym x.sized.0),
+          sym x.is ∙ ap (λ y. Ok (part y)) (sym q)
+              ∙ ap (λ y. Ok (part (cell_at (sets d 0 (cell_floats x.cell)) 0 (counts_at (sets n 0 y) 0 (length x.cell))))) (sym e2)
+              ∙ ap (λ y. Ok (part (cell_at (sets d 0 y) 0 (counts_at (sets n 0 (take f k')) 0 (length x.cell))))) (sym e1)
+              ∙ ap (λ y. Ok (part (cell_at (sets d 0 (take (13 * f + 3 * m) s')) 0 (counts_at (sets n 0 (take f k')) 0 y)))) (sym x.sized.0),
         )
 
-    cut_kept : (p : Clipped) → Clips (clip t room w c) p s 0 k 0 s' k' → Kept (kept_rest p) (kept_floats p d s') (kept_counts p n k') × (rest_at (kept_rest p) (kept_floats p d s') (kept_counts p n k') ≡ clip t room w c)
+    cut_kept : (p : Outcome Clipped) → Clips (clip t room w c) p s 0 k 0 s' k' → Kept (kept_rest p) (kept_floats p d s') (kept_counts p n k') × (rest_at (kept_rest p) (kept_floats p d s') (kept_counts p n k') ≡ clip t room w c)
     unfolding told kept_rest kept_floats kept_counts rest_at part_at heard
-    cut_kept C.Nothing x = (record { sits = λ e. absurd (false≢true e); fine = λ e. absurd (false≢true e) }, x.is)
-    cut_kept (C.Part f m) x = let q = part_kept f m x in (record { sits = λ e. q.0; fine = λ e. refl }, sym q.1)
-    cut_kept (C.Refused r) x = (record { sits = λ e. absurd (false≢true e); fine = λ e. absurd (false≢true e) }, x.is)
+    cut_kept (Ok None) x = (record { sits = λ e. absurd (false≢true e); fine = λ e. absurd (false≢true e) }, x.is)
+    cut_kept (Ok (Some f)) x = let q = part_kept f.faces f.corners x in (record { sits = λ e. q.0; fine = λ e. refl }, sym q.1)
+    cut_kept (Err r) x = (record { sits = λ e. absurd (false≢true e); fine = λ e. absurd (false≢true e) }, x.is)
 
 -- ---- one cut of the remainder
 
-pub left_stays : (g : Part → Outcome Part) (s : Rest) (d : List Float) (n : List ℕ) (e : Refusal) → s.verdict ≡ Refused e → Left g s (record { verdict = s.verdict; some = false; faces = 0 }) d n d n
+pub left_stays : (g : Part → Outcome Part) (s : Rest) (d : List Float) (n : List ℕ) (e : Refusal) → s.verdict ≡ Err e → Left g s (record { verdict = s.verdict; some = false; faces = 0 }) d n d n
 unfolding rest_at heard
 left_stays g s d n e v = record {
   kept = record { sits = λ x. absurd (false≢true x); fine = λ x. absurd (false≢true x) };
   is = ap (λ y. heard y (part_at false 0 d n)) v ∙ ap (λ o. then o g) (sym (ap (λ y. heard y (part_at s.some s.faces d n)) v));
 }
 
-pub left_nothing : (t : Precision) (room : ℕ) (w : Plane) (s : Rest) (d : List Float) (n : List ℕ) → s.verdict ≡ Fine → s.some ≡ false → Left (clip_part t room w) s s d n d n
+pub left_nothing : (t : Precision) (room : ℕ) (w : Plane) (s : Rest) (d : List Float) (n : List ℕ) → s.verdict ≡ Ok tt → s.some ≡ false → Left (clip_part t room w) s s d n d n
 unfolding rest_at heard part_at clip_part
 left_nothing t room w s d n v e = record {
   kept = record { sits = λ x. absurd (true≢false (sym x ∙ e)); fine = λ x. v };
   is =
-      let q : rest_at s d n ≡ ok nothing = ap (λ y. heard y (part_at s.some s.faces d n)) v ∙ ap (λ y. ok (part_at y s.faces d n)) e in
+      let q : rest_at s d n ≡ Ok nothing = ap (λ y. heard y (part_at s.some s.faces d n)) v ∙ ap (λ y. Ok (part_at y s.faces d n)) e in
       q ∙ ap (λ o. then o (clip_part t room w)) (sym q);
 }
 
-pub left_cut : (t : Precision) (room : ℕ) (w : Plane) (s r : Rest) (p : Clipped) (d : List Float) (n : List ℕ) (x : List Float) (k : List ℕ) (x' : List Float) (k' : List ℕ) (d' : List Float) (n' : List ℕ) →
-    s.verdict ≡ Fine → s.some ≡ true → (s.some ≡ true → Sits s.faces d n) → Place room x k → Place room d n →
+pub left_cut : (t : Precision) (room : ℕ) (w : Plane) (s r : Rest) (p : Outcome Clipped) (d : List Float) (n : List ℕ) (x : List Float) (k : List ℕ) (x' : List Float) (k' : List ℕ) (d' : List Float) (n' : List ℕ) →
+    s.verdict ≡ Ok tt → s.some ≡ true → (s.some ≡ true → Sits s.faces d n) → Place room x k → Place room d n →
     Clips (clip t room w (cell_at d 0 (counts_at n 0 s.faces))) p x 0 k 0 x' k' → Keeps p r d n x' k' d' n' →
     Left (clip_part t room w) s r d n d' n'
 unfolding rest_at heard part_at clip_part
 left_cut t room w s r p d n x k x' k' d' n' v e h lx ld y kp =
     let c = cell_at d 0 (counts_at n 0 s.faces) in
-    let q : rest_at s d n ≡ ok (part (cell_at d 0 (counts_at n 0 s.faces))) = ap (λ y. heard y (part_at s.some s.faces d n)) v ∙ ap (λ y. ok (part_at y s.faces d n)) e in
+    let q : rest_at s d n ≡ Ok (part (cell_at d 0 (counts_at n 0 s.faces))) = ap (λ y. heard y (part_at s.some s.faces d n)) v ∙ ap (λ y. Ok (part_at y s.faces d n)) e in
     let g = cut_kept t room w c x k x' k' d n (h e).wide lx ld p y in
     subst (λ z. Left (clip_part t room w) s z d n d' n') (sym kp.rest)
     (subst (λ z. Left (clip_part t room w) s (kept_rest p) d n z n') (sym kp.floats)
@@ -130,23 +123,23 @@ left_cut t room w s r p d n x k x' k' d' n' v e h lx ld y kp =
 
 -- ---- keep, in the words of the code
 
-pub keep_nothing : (p : Clipped) (d : List Float) (n : List ℕ) (s : List Float) (k : List ℕ) → p ≡ C.Nothing →
-    Keeps p (record { verdict = Fine; some = false; faces = 0 }) d n s k d n
+pub keep_nothing : (p : Outcome Clipped) (d : List Float) (n : List ℕ) (s : List Float) (k : List ℕ) → p ≡ Ok None →
+    Keeps p (record { verdict = Ok tt; some = false; faces = 0 }) d n s k d n
 unfolding kept_rest kept_floats kept_counts
 keep_nothing p d n s k e = record { rest = ap kept_rest (sym e); floats = ap (λ y. kept_floats y d s) (sym e); counts = ap (λ y. kept_counts y n k) (sym e) }
 
-pub keep_refused : (p : Clipped) (x : Refusal) (d : List Float) (n : List ℕ) (s : List Float) (k : List ℕ) → p ≡ C.Refused x →
-    Keeps p (record { verdict = Refused x; some = false; faces = 0 }) d n s k d n
+pub keep_refused : (p : Outcome Clipped) (x : Refusal) (d : List Float) (n : List ℕ) (s : List Float) (k : List ℕ) → p ≡ Err x →
+    Keeps p (record { verdict = Err x; some = false; faces = 0 }) d n s k d n
 unfolding kept_rest kept_floats kept_counts
 keep_refused p x d n s k e = record { rest = ap kept_rest (sym e); floats = ap (λ y. kept_floats y d s) (sym e); counts = ap (λ y. kept_counts y n k) (sym e) }
 
-pub keep_part : (p : Clipped) (f m : ℕ) (d : List Float) (n : List ℕ) (s : List Float) (k : List ℕ) (d' : List Float) (n' : List ℕ) → p ≡ C.Part f m →
+pub keep_part : (p : Outcome Clipped) (f m : ℕ) (d : List Float) (n : List ℕ) (s : List Float) (k : List ℕ) (d' : List Float) (n' : List ℕ) → p ≡ Ok (Some (record { faces = f; corners = m })) →
     d' ≡ sets d 0 (take (13 * f + 3 * m) s) → n' ≡ sets n 0 (take f k) →
-    Keeps p (record { verdict = Fine; some = true; faces = f }) d n s k d' n'
+    Keeps p (record { verdict = Ok tt; some = true; faces = f }) d n s k d' n'
 unfolding kept_rest kept_floats kept_counts
 keep_part p f m d n s k d' n' e ed en = record { rest = ap kept_rest (sym e); floats = ed ∙ ap (λ y. kept_floats y d s) (sym e); counts = en ∙ ap (λ y. kept_counts y n k) (sym e) }
 
-pub inside_part : (a b : ℕ) (p : Clipped) (f m : ℕ) → p ≡ C.Part f m → Inside a b p → (13 * f + 3 * m ≤ a) × (f ≤ b)
+pub inside_part : (a b : ℕ) (p : Outcome Clipped) (f m : ℕ) → p ≡ Ok (Some (record { faces = f; corners = m })) → Inside a b p → (13 * f + 3 * m ≤ a) × (f ≤ b)
 unfolding Inside
 inside_part a b p f m e h = subst (Inside a b) e h
 
@@ -156,14 +149,14 @@ module _ (t : Precision) (room : ℕ) (o p : Plane) (c : Cell) (d : List Float) 
   joins : (u : Outcome (List Cell)) (out : Stack) (r : Outcome Part) → out ≡ stack_of u → r ≡ then (heard out.verdict (part c)) (clip_part t room p) →
       then u (λ cs. then r (λ q. carving q cs)) ≡ then u (λ cs. then (clip t room p c) (λ q. carving q cs))
   unfolding stack_of heard clip_part
-  joins (ok cs) out r e q = ap (λ y. then y (λ z. carving z cs)) (q ∙ ap (λ y. then (heard y.verdict (part c)) (clip_part t room p)) e)
-  joins (refused x) out r e q = refl
+  joins (Ok cs) out r e q = ap (λ y. then y (λ z. carving z cs)) (q ∙ ap (λ y. then (heard y.verdict (part c)) (clip_part t room p)) e)
+  joins (Err x) out r e q = refl
 
 -- a refusal is no answer
-heard_fine : {A : Type 0} (v : Verdict) (a : A) (g : A → Outcome Part) (q : Part) → ok q ≡ then (heard v a) g → v ≡ Fine
+heard_fine : {A : Type 0} (v : Outcome Unit) (a : A) (g : A → Outcome Part) (q : Part) → Ok q ≡ then (heard v a) g → v ≡ Ok tt
 unfolding heard
-heard_fine Fine a g q e = refl
-heard_fine (Refused r) a g q e = never_ok (sym e)
+heard_fine (Ok tt) a g q e = refl
+heard_fine (Err r) a g q e = never_ok (sym e)
 
 module _ (t : Precision) (room : ℕ) (o p : Plane) (list out : Stack) (s left : Rest) (d : List Float) (n : List ℕ) (f : List Float) (m z : List ℕ) (d' : List Float) (n' : List ℕ) (f' : List Float) (m' z' : List ℕ) where
   pub carved : Listed room (then (list_at list f m z) (add_cut t room o (cell_at d 0 (counts_at n 0 s.faces)))) out f' m' z' → Left (clip_part t room p) s left d n d' n' →
@@ -188,13 +181,13 @@ module _ (t : Precision) (room : ℕ) (o p : Plane) (list out : Stack) (s left :
 
 -- ---- one plane of the second cell
 
-nothing_steps : (t : Precision) (room : ℕ) (p : Plane) (u : Outcome (List Cell)) (v : Verdict) →
+nothing_steps : (t : Precision) (room : ℕ) (p : Plane) (u : Outcome (List Cell)) (v : Outcome Unit) →
     then u (λ cs. then (heard v nothing) (λ q. carving q cs))
     ≡ then (then u (λ cs. then (heard v nothing) (λ q. carving q cs))) (λ x. carve_part t room x.out x.rest p)
 unfolding heard carve_part
-nothing_steps t room p (ok cs) Fine = refl
-nothing_steps t room p (ok cs) (Refused e) = refl
-nothing_steps t room p (refused r) v = refl
+nothing_steps t room p (Ok cs) (Ok tt) = refl
+nothing_steps t room p (Ok cs) (Err e) = refl
+nothing_steps t room p (Err r) v = refl
 
 module _ (t : Precision) (room : ℕ) (p : Plane) (s : Carved) (d : List Float) (n : List ℕ) (f : List Float) (m z : List ℕ) (h : Ready room s d n f m z) where
   -- nothing remains
@@ -207,7 +200,7 @@ module _ (t : Precision) (room : ℕ) (p : Plane) (s : Carved) (d : List Float) 
 
   module _ (e : s.rest.some ≡ true) where
     -- a part remains
-    list_of : (cs : List Cell) × (list_at s.list f m z ≡ ok cs)
+    list_of : (cs : List Cell) × (list_at s.list f m z ≡ Ok cs)
     unfolding list_at heard
     list_of = (cells_at f 0 m (take s.list.cells z), ap (λ v. heard v (cells_at f 0 m (take s.list.cells z))) (h.fine e))
 
@@ -222,59 +215,58 @@ module _ (t : Precision) (room : ℕ) (p : Plane) (s : Carved) (d : List Float) 
     unfolding carve_part carve_cell
     step_is = ap (λ y. then y (λ x. carve_part t room x.out x.rest p)) carving_of
 
-    pub carves_refused : (o : Planed) (x : Refusal) → planed o ≡ opposite_of t p → o ≡ P.Refused x →
-        Carves room (λ x. carve_part t room x.out x.rest p) s (record { rest = record { verdict = Refused x; some = false; faces = 0 }; list = s.list }) d n f m z d n f m z
-    unfolding carving_at rest_at heard planed
+    pub carves_refused : (o : Outcome Plane) (x : Refusal) → o ≡ opposite_of t p → o ≡ Err x →
+        Carves room (λ x. carve_part t room x.out x.rest p) s (record { rest = record { verdict = Err x; some = false; faces = 0 }; list = s.list }) d n f m z d n f m z
+    unfolding carving_at rest_at heard
     carves_refused o x eo ex = record {
       ready = record { kept = record { sits = λ y. absurd (false≢true y); fine = λ y. absurd (false≢true y) }; holds = h.holds; fine = λ y. absurd (false≢true y) };
-      is = ap (λ y. then {B = Carving} y (λ cs. refused x)) list_of.1
-          ∙ sym (step_is ∙ ap (λ y. then y (λ o. carve_on t room o p (cell_at d 0 (counts_at n 0 s.rest.faces)) list_of.0)) (sym eo ∙ ap planed ex));
+      is = ap (λ y. then {B = Carving} y (λ cs. Err x)) list_of.1
+          ∙ sym (step_is ∙ ap (λ y. then y (λ o. carve_on t room o p (cell_at d 0 (counts_at n 0 s.rest.faces)) list_of.0)) (sym eo ∙ ex));
     }
 
-    pub carves_cell : (o : Planed) (back : Plane) (r : Carved) (d' : List Float) (n' : List ℕ) (f' : List Float) (m' z' : List ℕ) → planed o ≡ opposite_of t p → o ≡ P.Made back →
+    pub carves_cell : (o : Outcome Plane) (back : Plane) (r : Carved) (d' : List Float) (n' : List ℕ) (f' : List Float) (m' z' : List ℕ) → o ≡ opposite_of t p → o ≡ Ok back →
         Ready room r d' n' f' m' z' → carving_at r d' n' f' m' z' ≡ then (list_at s.list f m z) (carve_on t room back p (cell_at d 0 (counts_at n 0 s.rest.faces))) →
         Carves room (λ x. carve_part t room x.out x.rest p) s r d n f m z d' n' f' m' z'
-    unfolding planed
     carves_cell o back r d' n' f' m' z' eo ex g q = record {
       ready = g;
       is = q ∙ ap (λ y. then y (carve_on t room back p (cell_at d 0 (counts_at n 0 s.rest.faces)))) list_of.1
-          ∙ sym (step_is ∙ ap (λ y. then y (λ o. carve_on t room o p (cell_at d 0 (counts_at n 0 s.rest.faces)) list_of.0)) (sym eo ∙ ap planed ex));
+          ∙ sym (step_is ∙ ap (λ y. then y (λ o. carve_on t room o p (cell_at d 0 (counts_at n 0 s.rest.faces)) list_of.0)) (sym eo ∙ ex));
     }
 
 -- ---- the list at the end
 
 module _ (room : ℕ) (s : Carved) (d : List Float) (n : List ℕ) (f : List Float) (m z : List ℕ) (h : Ready room s d n f m z) where
-  ended_by : (v w : Verdict) → s.list.verdict ≡ v → s.rest.verdict ≡ w → Listed room (then (carving_at s d n f m z) (λ x. ok x.out)) (ended v w s.list) f m z
+  ended_by : (v w : Outcome Unit) → s.list.verdict ≡ v → s.rest.verdict ≡ w → Listed room (then (carving_at s d n f m z) (λ x. Ok x.out)) (ended v w s.list) f m z
   unfolding carving_at rest_at list_at heard ended
-  ended_by Fine Fine ev ew =
+  ended_by (Ok t) (Ok u) ev ew =
       let L = cells_at f 0 m (take s.list.cells z) in
       let a : carving_at s d n f m z ≡ carving (part_at s.rest.some s.rest.faces d n) L =
       ap (λ v. then (heard v L) (λ cs. then (rest_at s.rest d n) (λ x. carving x cs))) ev
       ∙ ap (λ v. then (heard v (part_at s.rest.some s.rest.faces d n)) (λ x. carving x L)) ew in
-      subst (λ o. Listed room o s.list f m z) (ap (λ v. heard v L) ev ∙ ap (λ o. then o (λ x. ok x.out)) (sym a)) h.holds
-  ended_by Fine (Refused e) ev ew =
+      subst (λ o. Listed room o s.list f m z) (ap (λ v. heard v L) ev ∙ ap (λ o. then o (λ x. Ok x.out)) (sym a)) h.holds
+  ended_by (Ok t) (Err e) ev ew =
       let L = cells_at f 0 m (take s.list.cells z) in
-      let a : carving_at s d n f m z ≡ refused e =
+      let a : carving_at s d n f m z ≡ Err e =
       ap (λ v. then (heard v L) (λ cs. then (rest_at s.rest d n) (λ x. carving x cs))) ev
       ∙ ap (λ v. then (heard v (part_at s.rest.some s.rest.faces d n)) (λ x. carving x L)) ew in
-      subst (λ o. Listed room o (stack_of (refused e)) f m z) (ap (λ o. then o (λ x. ok x.out)) (sym a)) (listed_refused room e (stack_of (refused e)) f m z refl)
-  ended_by (Refused r) w ev ew =
+      subst (λ o. Listed room o (stack_of (Err e)) f m z) (ap (λ o. then o (λ x. Ok x.out)) (sym a)) (listed_refused room e (stack_of (Err e)) f m z refl)
+  ended_by (Err r) w ev ew =
       let L = cells_at f 0 m (take s.list.cells z) in
-      let a : carving_at s d n f m z ≡ refused r =
+      let a : carving_at s d n f m z ≡ Err r =
       ap (λ v. then (heard v L) (λ cs. then (rest_at s.rest d n) (λ x. carving x cs))) ev in
-      subst (λ o. Listed room o s.list f m z) (ap (λ v. heard v L) ev ∙ ap (λ o. then o (λ x. ok x.out)) (sym a)) h.holds
+      subst (λ o. Listed room o s.list f m z) (ap (λ v. heard v L) ev ∙ ap (λ o. then o (λ x. Ok x.out)) (sym a)) h.holds
 
-  pub ended_listed : (r : Stack) → r ≡ ended s.list.verdict s.rest.verdict s.list → Listed room (then (carving_at s d n f m z) (λ x. ok x.out)) r f m z
-  ended_listed r e = subst (λ y. Listed room (then (carving_at s d n f m z) (λ x. ok x.out)) y f m z) (sym e) (ended_by _ _ refl refl)
+  pub ended_listed : (r : Stack) → r ≡ ended s.list.verdict s.rest.verdict s.list → Listed room (then (carving_at s d n f m z) (λ x. Ok x.out)) r f m z
+  ended_listed r e = subst (λ y. Listed room (then (carving_at s d n f m z) (λ x. Ok x.out)) y f m z) (sym e) (ended_by _ _ refl refl)
 
-pub end_stays : (v w : Verdict) (l : Stack) (e : Refusal) → v ≡ Refused e → l ≡ ended v w l
+pub end_stays : (v w : Outcome Unit) (l : Stack) (e : Refusal) → v ≡ Err e → l ≡ ended v w l
 unfolding ended
 end_stays v w l e q = ap (λ y. ended y w l) (sym q)
 
-pub end_fine : (v w : Verdict) (l : Stack) → v ≡ Fine → w ≡ Fine → l ≡ ended v w l
+pub end_fine : (v w : Outcome Unit) (l : Stack) → v ≡ Ok tt → w ≡ Ok tt → l ≡ ended v w l
 unfolding ended
-end_fine v w l q x = ap (λ y. ended y Fine l) (sym q) ∙ ap (λ y. ended v y l) (sym x)
+end_fine v w l q x = ap (λ y. ended y (Ok tt) l) (sym q) ∙ ap (λ y. ended v y l) (sym x)
 
-pub end_refused : (v w : Verdict) (l : Stack) (e : Refusal) (r : Stack) → v ≡ Fine → w ≡ Refused e → r ≡ stack_of (refused e) → r ≡ ended v w l
+pub end_refused : (v w : Outcome Unit) (l : Stack) (e : Refusal) (r : Stack) → v ≡ Ok tt → w ≡ Err e → r ≡ stack_of (Err e) → r ≡ ended v w l
 unfolding ended
-end_refused v w l e r q x er = er ∙ ap (λ y. ended y (Refused e) l) (sym q) ∙ ap (λ y. ended v y l) (sym x)
+end_refused v w l e r q x er = er ∙ ap (λ y. ended y (Err e) l) (sym q) ∙ ap (λ y. ended v y l) (sym x)

@@ -1,14 +1,10 @@
 -- The remainder in a room of its own, and the cells of a difference beside it. Definitions only.
-use Rattle.std.specs.Prelude.{◌≡◌, Bool, true, false, List, ℕ, ◌+◌, ◌*◌, ◌≤◌, length, take, Float}
+use Rattle.std.specs.Prelude.{◌≡◌, Bool, true, false, List, ℕ, ◌+◌, ◌*◌, ◌≤◌, length, take, Float, Ok, Err, Some, None}
 use Rattle.std.proofs.lemmas.List.Edits.{sets}
-use Rattle.refusal.specs.declared.Verdict.{Verdict}
-use Rattle.refusal.specs.declared.Verdict.TheVariants.{Fine, Refused}
-use Rattle.refusal.specs.Outcome.{Outcome, refused, then, heard}
+use Rattle.refusal.specs.Outcome.{Outcome, then, heard}
 use Rattle.space.specs.Shapes.{Part, nothing, part}
 use Rattle.room.specs.Rooms.{cell_at, counts_at}
-use Rattle.clip.specs.declared.Clipped.{Clipped}
-use Rattle.clip.specs.declared.Clipped.TheVariants as C
-use Rattle.clip.specs.Clips.{Given, Wide}
+use Rattle.clip.specs.Clips.{Clipped, Given, Wide}
 use Rattle.stack.specs.declared.Stack.{Stack}
 use Rattle.stack.specs.Stacks.{stack_of, list_at, Holds}
 use Rattle.carving.specs.declared.Rest.{Rest}
@@ -33,7 +29,7 @@ pub record Sits (faces : ℕ) (d : List Float) (n : List ℕ) : Type 0 where
 -- where there is a remainder, it sits in its room, and nothing was refused
 pub record Kept (s : Rest) (d : List Float) (n : List ℕ) : Type 0 where
   pub sits : s.some ≡ true → Sits s.faces d n
-  pub fine : s.some ≡ true → s.verdict ≡ Fine
+  pub fine : s.some ≡ true → s.verdict ≡ Ok tt
 
 -- one cut of the remainder
 pub record Left (g : Part → Outcome Part) (s r : Rest) (d : List Float) (n : List ℕ) (d' : List Float) (n' : List ℕ) : Type 0 where
@@ -47,31 +43,31 @@ pub record Place (room : ℕ) (d : List Float) (n : List ℕ) : Type 0 where
 
 -- ---- what a cut answers is copied back into the remainder's room
 
-unfoldable pub kept_rest : Clipped → Rest
-kept_rest C.Nothing = record { verdict = Fine; some = false; faces = 0 }
-kept_rest (C.Part faces n) = record { verdict = Fine; some = true; faces = faces }
-kept_rest (C.Refused r) = record { verdict = Refused r; some = false; faces = 0 }
+unfoldable pub kept_rest : Outcome Clipped → Rest
+kept_rest (Ok None) = record { verdict = Ok tt; some = false; faces = 0 }
+kept_rest (Ok (Some x)) = record { verdict = Ok tt; some = true; faces = x.faces }
+kept_rest (Err r) = record { verdict = Err r; some = false; faces = 0 }
 
-unfoldable pub kept_floats : Clipped → List Float → List Float → List Float
-kept_floats C.Nothing d s = d
-kept_floats (C.Part faces n) d s = sets d 0 (take (13 * faces + 3 * n) s)
-kept_floats (C.Refused r) d s = d
+unfoldable pub kept_floats : Outcome Clipped → List Float → List Float → List Float
+kept_floats (Ok None) d s = d
+kept_floats (Ok (Some x)) d s = sets d 0 (take (13 * x.faces + 3 * x.corners) s)
+kept_floats (Err r) d s = d
 
-unfoldable pub kept_counts : Clipped → List ℕ → List ℕ → List ℕ
-kept_counts C.Nothing d s = d
-kept_counts (C.Part faces n) d s = sets d 0 (take faces s)
-kept_counts (C.Refused r) d s = d
+unfoldable pub kept_counts : Outcome Clipped → List ℕ → List ℕ → List ℕ
+kept_counts (Ok None) d s = d
+kept_counts (Ok (Some x)) d s = sets d 0 (take x.faces s)
+kept_counts (Err r) d s = d
 
-pub record Keeps (p : Clipped) (r : Rest) (d : List Float) (n : List ℕ) (s : List Float) (k : List ℕ) (d' : List Float) (n' : List ℕ) : Type 0 where
+pub record Keeps (p : Outcome Clipped) (r : Rest) (d : List Float) (n : List ℕ) (s : List Float) (k : List ℕ) (d' : List Float) (n' : List ℕ) : Type 0 where
   pub rest : r ≡ kept_rest p
   pub floats : d' ≡ kept_floats p d s
   pub counts : n' ≡ kept_counts p n k
 
 -- it lies within m floats and k counts
-unfoldable pub Inside : ℕ → ℕ → Clipped → Type 0
-Inside m k C.Nothing = Unit {0}
-Inside m k (C.Part faces n) = (13 * faces + 3 * n ≤ m) × (faces ≤ k)
-Inside m k (C.Refused r) = Unit {0}
+unfoldable pub Inside : ℕ → ℕ → Outcome Clipped → Type 0
+Inside m k (Ok None) = Unit {0}
+Inside m k (Ok (Some x)) = (13 * x.faces + 3 * x.corners ≤ m) × (x.faces ≤ k)
+Inside m k (Err r) = Unit {0}
 
 -- ---- the remainder and the pieces
 
@@ -81,13 +77,13 @@ carving_at s d n f m z = then (list_at s.list f m z) (λ cs. then (rest_at s.res
 pub record Ready (room : ℕ) (s : Carved) (d : List Float) (n : List ℕ) (f : List Float) (m z : List ℕ) : Type 0 where
   pub kept : Kept s.rest d n
   pub holds : Holds room s.list f m z
-  pub fine : s.rest.some ≡ true → s.list.verdict ≡ Fine
+  pub fine : s.rest.some ≡ true → s.list.verdict ≡ Ok tt
 
 -- the list at the end; a refusal of either decides
-unfoldable pub ended : Verdict → Verdict → Stack → Stack
-ended Fine Fine l = l
-ended Fine (Refused e) l = stack_of (refused e)
-ended (Refused r) w l = l
+unfoldable pub ended : Outcome Unit → Outcome Unit → Stack → Stack
+ended (Ok t) (Ok u) l = l
+ended (Ok t) (Err e) l = stack_of (Err e)
+ended (Err r) w l = l
 
 -- one step: what stands in the slices after it is the step's outcome of what stood there before
 pub record Carves (room : ℕ) (g : Carving → Outcome Carving) (s r : Carved) (d : List Float) (n : List ℕ) (f : List Float) (m z : List ℕ) (d' : List Float) (n' : List ℕ) (f' : List Float) (m' z' : List ℕ) : Type 0 where

@@ -10,15 +10,15 @@ ghost use Rattle.stack.specs.Stacks.{list_at, Holds, Places, Work};
 ghost use Rattle.carving.specs.Carvings.{carve_on, carve_part, clip_part};
 ghost use Rattle.carving.specs.Rests.{Sits, Left, Place, Keeps, Inside, carving_at, Ready, Carves, ended};
 
-use clip::Clipped;
-use refusal::Verdict;
-use space::{Plane, Planed, Precision};
+use cell::Kept;
+use refusal::Refusal;
+use space::{Plane, Precision};
 use stack::Stack;
 
 // What is left of the first cell: whether there is any, and how many faces it has.
 #[derive(Clone, Copy)]
 pub struct Rest {
-    pub verdict: Verdict,
+    pub verdict: Result<(), Refusal>,
     pub some: bool,
     pub faces: usize,
 }
@@ -31,27 +31,37 @@ pub struct Carved {
 }
 
 // What a cut answers is the remainder now.
-fn keep(p: Clipped, spare: &[f64], slots: &[u64], rest: &mut [f64], held: &mut [u64]) -> Rest
+fn keep(
+    p: Result<Option<Kept>, Refusal>,
+    spare: &[f64],
+    slots: &[u64],
+    rest: &mut [f64],
+    held: &mut [u64],
+) -> Rest
     requires { Inside (length spare.now) (length slots.now) p × Inside (length rest.old) (length held.old) p }
     ensures { Keeps p result rest.old held.old spare.now slots.now rest.new held.new }
 {
     match p {
-        Clipped::Nothing => Rest {
-            verdict: Verdict::Fine,
-            some: false,
-            faces: 0,
-        },
-        Clipped::Part(f, n) => {
-            stack::copy_floats(spare, room::PLANE * f + 3 * n, rest);
-            stack::copy_counts(slots, f, held);
-            Rest {
-                verdict: Verdict::Fine,
-                some: true,
-                faces: f,
+        Ok(part) => match part {
+            None => Rest {
+                verdict: Ok(()),
+                some: false,
+                faces: 0,
+            },
+            Some(kept) => {
+                let f = kept.faces;
+                let n = kept.corners;
+                stack::copy_front(spare, room::PLANE * f + 3 * n, rest);
+                stack::copy_front(slots, f, held);
+                Rest {
+                    verdict: Ok(()),
+                    some: true,
+                    faces: f,
+                }
             }
-        }
-        Clipped::Refused(e) => Rest {
-            verdict: Verdict::Refused(e),
+        },
+        Err(e) => Rest {
+            verdict: Err(e),
             some: false,
             faces: 0,
         },
@@ -81,7 +91,7 @@ pub fn cut_rest(
     let v = s.verdict;
     let some = s.some;
     let faces = s.faces;
-    let Verdict::Fine = v else {
+    let Ok(()) = v else {
         return Rest {
             verdict: v,
             some: false,
@@ -174,13 +184,13 @@ pub fn carve(
     }
     let o = side::opposite(plane, t);
     match o {
-        Planed::Made(back) => carve_cell(
+        Ok(back) => carve_cell(
             t, limit, plane, back, faces, list, rest, held, spare, slots, dst, counts, sizes, face,
             cap, flat, order, chain,
         ),
-        Planed::Refused(e) => Carved {
+        Err(e) => Carved {
             rest: Rest {
-                verdict: Verdict::Refused(e),
+                verdict: Err(e),
                 some: false,
                 faces: 0,
             },
@@ -197,11 +207,11 @@ pub fn end(s: Carved) -> Stack
     let list = s.list;
     let v = list.verdict;
     let w = cur.verdict;
-    let Verdict::Fine = v else {
+    let Ok(()) = v else {
         return list;
     };
     match w {
-        Verdict::Fine => list,
-        Verdict::Refused(e) => stack::gone(e),
+        Ok(()) => list,
+        Err(e) => stack::gone(e),
     }
 }

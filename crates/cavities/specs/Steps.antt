@@ -1,44 +1,34 @@
 -- The search for the outward shell, in the words of the code.
-use Rattle.std.specs.Prelude.{◌≡◌, refl, Bool, List, [], ◌∷◌, ◌++◌, map, ℕ, zero, suc, ◌+◌, ◌-◌, ◌≤◌, ◌<◌, Float, get_or, take, drop}
-use Rattle.std.proofs.Common.{sym, ap, ap₂, ◌∙◌, take-add, drop_at, length-take-le, get_or-drop, get_or-take}
+use Rattle.std.specs.Prelude.{◌≡◌, List, [], ℕ, ◌+◌, ◌-◌, ◌≤◌, ◌<◌, Float, get_or, take, drop, Option, None, Some, Ok, Err}
+use Rattle.std.proofs.Common.{sym, ap, ◌∙◌, take-add, drop_at, length-take-le, get_or-drop, get_or-take}
 use Rattle.std.proofs.Math.Path.{subst}
-use Rattle.std.proofs.Math.Bool.{true, false}
 use native.Mathlib.Omega.{arith}
 use Rattle.std.proofs.Math.ListN.{length}
 use Rattle.std.proofs.Math.Seq.{slice, length-slice}
 use Rattle.refusal.specs.declared.Refusal.{Refusal}
-use Rattle.refusal.specs.declared.Verdict.{Verdict}
-use Rattle.refusal.specs.declared.Verdict.TheVariants.{Fine, Refused}
-use Rattle.refusal.specs.Outcome.{Outcome, ok, refused, refusal_of}
-use Rattle.sums.specs.Keys.{key}
-use Rattle.keys.specs.Rows.{Starts, row, rows, row_at, length_rows}
-use Rattle.bodies.specs.Fusing.{Sense, outward, inward}
+use Rattle.refusal.specs.Outcome.{Outcome, refusal_of}
+use Rattle.keys.specs.Rows.{Starts, rows, row_at, length_rows}
+use Rattle.bodies.specs.Fusing.{Sense}
 use Rattle.volume.specs.declared.Sensed.{Sensed}
 use Rattle.volume.specs.declared.Sensed.TheVariants as W
 use Rattle.volume.specs.Volume.{volume_sign, sensed}
 use Rattle.volume.specs.Shell.{shell_points, Facets}
-use Rattle.cavities.specs.declared.Found.{Found}
-use Rattle.cavities.specs.Outer.{Ordered, Part, Standing, standing_start, standing_part, part_refused, part_first, part_second, part_inward, end_found, end_none, end_refused}
+use Rattle.cavities.specs.Outer.{Ordered, Part, part_start, part_refused, part_first, part_second, part_inward, end_found, end_none}
 
 -- The certified sense of a shell of facets.
 abbrev pub volume_of : List Float → List ℕ → List ℕ → List ℕ → Outcome Sense
 volume_of ps v starts g = volume_sign (shell_points ps v starts g)
 
--- Where the search stands after one shell.
-unfoldable pub placed_at : Sensed → ℕ → ℕ → Bool → ℕ → Found
-placed_at W.Outward k g true o = record { verdict = Refused (refusal_of 22); at = g; some = true; outer = o }
-placed_at W.Outward k g false o = record { verdict = Fine; at = k + 1; some = true; outer = k }
-placed_at W.Inward k g b o = record { verdict = Fine; at = k + 1; some = b; outer = o }
-placed_at (W.Refused r) k g b o = record { verdict = Refused r; at = g; some = b; outer = o }
-
-abbrev pub outwardly : Sensed
-outwardly = W.Outward
+-- The outward shell that is met so far, after shell k.
+unfoldable pub placed_at : Sensed → ℕ → Option ℕ → Outcome (Option ℕ)
+placed_at W.Outward k (Some o) = Err (refusal_of 22)
+placed_at W.Outward k None = Ok (Some k)
+placed_at W.Inward k s = Ok s
 
 -- 23 where there is no outward shell.
-unfoldable pub ended_at : Verdict → Bool → ℕ → ℕ → Found
-ended_at Fine true k o = record { verdict = Fine; at = k; some = true; outer = o }
-ended_at Fine false k o = record { verdict = Refused (refusal_of 23); at = k; some = false; outer = o }
-ended_at (Refused r) b k o = record { verdict = Refused r; at = k; some = b; outer = o }
+unfoldable pub ended_at : Option ℕ → Outcome ℕ
+ended_at (Some o) = Ok o
+ended_at None = Err (refusal_of 23)
 
 -- The shells in slices: each has a facet, and each facet has a vertex.
 pub record Shelled (v starts : List ℕ) (f : ℕ) (d c : List ℕ) (g : ℕ) : Type 0 where
@@ -58,7 +48,7 @@ part_slice a e d h l =
 pub part_facets : (v starts : List ℕ) (a e : ℕ) (d : List ℕ) → a ≤ e → e ≤ length d → Facets v starts (slice a e d) → Facets v starts (take (e - a) (drop a d))
 part_facets v starts a e d h l w = subst (Facets v starts) (sym (part_slice a e d h l)) w
 
-pub part_sense : (ps : List Float) (v starts : List ℕ) (a e : ℕ) (d : List ℕ) (r : Sensed) → a ≤ e → e ≤ length d → sensed r ≡ volume_of ps v starts (take (e - a) (drop a d)) → sensed r ≡ volume_of ps v starts (slice a e d)
+pub part_sense : (ps : List Float) (v starts : List ℕ) (a e : ℕ) (d : List ℕ) (r : Outcome Sensed) → a ≤ e → e ≤ length d → sensed r ≡ volume_of ps v starts (take (e - a) (drop a d)) → sensed r ≡ volume_of ps v starts (slice a e d)
 part_sense ps v starts a e d r h l q = q ∙ ap (volume_of ps v starts) (part_slice a e d h l)
 
 module _ (v starts : List ℕ) (f : ℕ) (d c : List ℕ) (g : ℕ) (s : Shelled v starts f d c g) where
@@ -90,51 +80,55 @@ module _ (v starts : List ℕ) (f : ℕ) (d c : List ℕ) (g : ℕ) (s : Shelled
       inside j l = omega (arith, get_or-drop (get_or c k 0) (take (get_or c (k + 1) 0) d) j 0, get_or-take (get_or c (k + 1) 0) d (get_or c k 0 + j) 0 (omega (arith, len)), s.inn (get_or c k 0 + j) (omega (arith, len, s.upto k h)))
 
 -- The loop.
-abbrev pub Seeking : List Float → List ℕ → List ℕ → List ℕ → List ℕ → ℕ → Found → Type 0
-Seeking ps v starts d c g m = Standing (volume_of ps v starts) (rows d c g) m.verdict m.at m.some m.outer
+abbrev pub Seeking : List Float → List ℕ → List ℕ → List ℕ → List ℕ → ℕ → Option ℕ → ℕ → Type 0
+Seeking ps v starts d c g s k = Part (volume_of ps v starts) (rows d c g) s k
 
 module _ (ps : List Float) (v starts d c : List ℕ) (g : ℕ) where
-  pub seeking_start : Seeking ps v starts d c g (record { verdict = Fine; at = 0; some = false; outer = 0 })
-  seeking_start = standing_start (volume_of ps v starts) (rows d c g)
+  pub seeking_start : Seeking ps v starts d c g None 0
+  seeking_start = part_start (volume_of ps v starts) (rows d c g)
 
-  pub seeking_step : (m n : Found) (s : Sensed) → m.at < g → Seeking ps v starts d c g m → sensed s ≡ volume_of ps v starts (slice (get_or c m.at 0) (get_or c (m.at + 1) 0) d) → n ≡ placed_at s m.at g m.some m.outer → Seeking ps v starts d c g n
-  unfolding placed_at sensed
-  seeking_step m n s h w e q = subst (Seeking ps v starts d c g) (sym q) (turn s m.some (standing_part (volume_of ps v starts) (rows d c g) m.verdict m.at m.some m.outer (omega (arith, many)) w) e)
-    where
-      many : length (rows d c g) ≡ g
-      many = length_rows d c g
+  module _ (s : Option ℕ) (k : ℕ) (h : k < g) (w : Seeking ps v starts d c g s k) (r : Outcome Sensed) (e : sensed r ≡ volume_of ps v starts (slice (get_or c k 0) (get_or c (k + 1) 0) d)) where
+    inn : k < length (rows d c g)
+    inn = omega (arith, length_rows d c g)
 
-      vol : volume_of ps v starts (get_or (rows d c g) m.at []) ≡ volume_of ps v starts (slice (get_or c m.at 0) (get_or c (m.at + 1) 0) d)
-      vol = ap (volume_of ps v starts) (row_at d c g m.at h)
+    vol : volume_of ps v starts (get_or (rows d c g) k []) ≡ sensed r
+    vol = ap (volume_of ps v starts) (row_at d c g k h) ∙ sym e
 
-      turn : (s : Sensed) (b : Bool) → Part (volume_of ps v starts) (rows d c g) b m.at m.outer → sensed s ≡ volume_of ps v starts (slice (get_or c m.at 0) (get_or c (m.at + 1) 0) d) → Seeking ps v starts d c g (placed_at s m.at g b m.outer)
-      turn W.Outward true p e = subst (λ n. Standing (volume_of ps v starts) (rows d c g) (Refused (refusal_of 22)) n true m.outer) many (part_second (volume_of ps v starts) (rows d c g) m.at m.outer (omega (arith, many)) p (vol ∙ sym e))
-      turn W.Outward false p e = part_first (volume_of ps v starts) (rows d c g) m.at m.outer (omega (arith, many)) p (vol ∙ sym e)
-      turn W.Inward b p e = part_inward (volume_of ps v starts) (rows d c g) m.at m.outer (omega (arith, many)) b p (vol ∙ sym e)
-      turn (W.Refused r) b p e = subst (λ n. Standing (volume_of ps v starts) (rows d c g) (Refused r) n b m.outer) many (part_refused (volume_of ps v starts) (rows d c g) b m.at m.outer (omega (arith, many)) p r (vol ∙ sym e))
+    -- a shell that is neither outward nor inward
+    pub seeking_stopped : (y : Refusal) (u : Outcome ℕ) → r ≡ Err y → u ≡ Err y → Ordered (volume_of ps v starts) (rows d c g) u
+    unfolding sensed
+    seeking_stopped y u z q = subst (Ordered (volume_of ps v starts) (rows d c g)) (sym q) (part_refused (volume_of ps v starts) (rows d c g) s k inn w y (vol ∙ ap sensed z))
 
-  -- each turn goes on
-  placed_less : (s : Sensed) (b : Bool) (k o : ℕ) (n : Found) → k < g → n ≡ placed_at s k g b o → k < n.at
-  unfolding placed_at
-  placed_less s b k o n h q = rw q (turn s b)
-    where
-      turn : (s : Sensed) (b : Bool) → k < (placed_at s k g b o).at
-      turn W.Outward true = h
-      turn W.Outward false = omega arith
-      turn W.Inward b = omega arith
-      turn (W.Refused r) b = h
+    -- what one shell leaves
+    Left : Outcome (Option ℕ) → Type 0
+    Left (Ok t) = Part (volume_of ps v starts) (rows d c g) t (k + 1)
+    Left (Err y) = Ordered (volume_of ps v starts) (rows d c g) (Err y)
 
-  pub seeking_less : (s : Sensed) (b : Bool) (k o : ℕ) (n : Found) → k < g → n ≡ placed_at s k g b o → g - n.at < g - k
-  seeking_less s b k o n h q = omega (arith, placed_less s b k o n h q)
+    turn : (x : Sensed) (s : Option ℕ) → Part (volume_of ps v starts) (rows d c g) s k → volume_of ps v starts (get_or (rows d c g) k []) ≡ sensed (Ok x) → Left (placed_at x k s)
+    unfolding placed_at sensed Left
+    turn W.Outward (Some o) w e = part_second (volume_of ps v starts) (rows d c g) k inn o w e
+    turn W.Outward None w e = part_first (volume_of ps v starts) (rows d c g) k inn w e
+    turn W.Inward s w e = part_inward (volume_of ps v starts) (rows d c g) k inn s w e
 
-  pub seeking_end : (m n : Found) → g ≤ m.at → Seeking ps v starts d c g m → n ≡ ended_at m.verdict m.some m.at m.outer → Ordered (volume_of ps v starts) (rows d c g) n.verdict n.outer
+    module _ (x : Sensed) (z : r ≡ Ok x) (o : Outcome (Option ℕ)) (q : o ≡ placed_at x k s) where
+      left : Left o
+      left = subst Left (sym q) (turn x s w (vol ∙ ap sensed z))
+
+      pub seeking_step : (t : Option ℕ) → o ≡ Ok t → Seeking ps v starts d c g t (k + 1)
+      unfolding Left
+      seeking_step t a = subst Left a left
+
+      pub seeking_refused : (y : Refusal) (u : Outcome ℕ) → o ≡ Err y → u ≡ Err y → Ordered (volume_of ps v starts) (rows d c g) u
+      unfolding Left
+      seeking_refused y u a b = subst (Ordered (volume_of ps v starts) (rows d c g)) (sym b) (subst Left a left)
+
+  pub seeking_end : (s : Option ℕ) (k : ℕ) (u : Outcome ℕ) → g ≤ k → Seeking ps v starts d c g s k → u ≡ ended_at s → Ordered (volume_of ps v starts) (rows d c g) u
   unfolding ended_at
-  seeking_end m n h w q = rw q (turn m.verdict m.some w)
+  seeking_end s k u h w q = subst (Ordered (volume_of ps v starts) (rows d c g)) (sym q) (turn s w)
     where
-      k : length (rows d c g) ≤ m.at
-      k = omega (arith, length_rows d c g)
+      many : length (rows d c g) ≤ k
+      many = omega (arith, length_rows d c g)
 
-      turn : (t : Verdict) (b : Bool) → Standing (volume_of ps v starts) (rows d c g) t m.at b m.outer → Ordered (volume_of ps v starts) (rows d c g) (ended_at t b m.at m.outer).verdict (ended_at t b m.at m.outer).outer
-      turn Fine true s = end_found (volume_of ps v starts) (rows d c g) m.at m.outer k s
-      turn Fine false s = end_none (volume_of ps v starts) (rows d c g) m.at m.outer k s
-      turn (Refused r) b s = end_refused (volume_of ps v starts) (rows d c g) m.at m.outer k r b s
+      turn : (s : Option ℕ) → Part (volume_of ps v starts) (rows d c g) s k → Ordered (volume_of ps v starts) (rows d c g) (ended_at s)
+      turn (Some o) w = end_found (volume_of ps v starts) (rows d c g) k many o w
+      turn None w = end_none (volume_of ps v starts) (rows d c g) k many w

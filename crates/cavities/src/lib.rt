@@ -8,93 +8,52 @@ ghost use Rattle.std.proofs.Math.Seq.{slice};
 ghost use Rattle.volume.specs.Volume.{sensed};
 ghost use Rattle.volume.specs.Shell.{Points, Facets};
 ghost use Rattle.cavities.specs.Outer.{Ordered};
-ghost use Rattle.cavities.specs.Steps.{volume_of, outwardly, placed_at, ended_at, Shelled};
+ghost use Rattle.cavities.specs.Steps.{volume_of, placed_at, ended_at, Shelled};
+ghost use Rattle.volume.specs.declared.Sensed.TheVariants.{Outward};
 
-use refusal::{Refusal, Verdict};
+use refusal::Refusal;
 use volume::Sensed;
 
-// The search for the outward shell: where it is, and which one it is, if it was met.
-#[derive(Clone, Copy)]
-pub struct Found {
-    pub verdict: Verdict,
-    pub at: usize,
-    pub some: bool,
-    pub outer: usize,
-}
-
 // A second outward shell is 22.
-fn place_outward(k: usize, g: usize, some: bool, outer: usize) -> Found
-    requires { k < g }
-    ensures { result ≡ placed_at outwardly k g some outer }
+#[tactic(auto, unfolding(crate::specs::Steps::placed_at))]
+fn place_outward(k: usize, outer: Option<usize>) -> Result<Option<usize>, Refusal>
+    ensures { result ≡ placed_at Outward k outer }
 {
-    if some {
-        return Found {
-            verdict: Verdict::Refused(refusal::refuse(22)),
-            at: g,
-            some,
-            outer,
-        };
-    }
-    Found {
-        verdict: Verdict::Fine,
-        at: k + 1,
-        some: true,
-        outer: k,
+    match outer {
+        Some(_) => Err(refusal::refuse(22)),
+        None => Ok(Some(k)),
     }
 }
 
-// One shell.
-fn place_shell(s: Sensed, k: usize, g: usize, some: bool, outer: usize) -> Found
-    requires { k < g }
-    ensures { result ≡ placed_at s k g some outer }
+// One shell: k, where it is the outward one, else the one that was met before.
+#[tactic(auto, unfolding(crate::specs::Steps::placed_at))]
+fn place_shell(sense: Sensed, k: usize, outer: Option<usize>) -> Result<Option<usize>, Refusal>
+    ensures { result ≡ placed_at sense k outer }
 {
-    match s {
-        Sensed::Outward => place_outward(k, g, some, outer),
-        Sensed::Inward => Found {
-            verdict: Verdict::Fine,
-            at: k + 1,
-            some,
-            outer,
-        },
-        Sensed::Refused(r) => Found {
-            verdict: Verdict::Refused(r),
-            at: g,
-            some,
-            outer,
-        },
+    match sense {
+        Sensed::Outward => place_outward(k, outer),
+        Sensed::Inward => Ok(outer),
     }
 }
 
 // No outward shell is 23.
-fn end_search(verdict: Verdict, some: bool, at: usize, outer: usize) -> Found
-    ensures { result ≡ ended_at verdict some at outer }
+#[tactic(auto, unfolding(crate::specs::Steps::ended_at))]
+fn end_search(outer: Option<usize>) -> Result<usize, Refusal>
+    ensures { result ≡ ended_at outer }
 {
-    let Verdict::Fine = verdict else {
-        return Found {
-            verdict,
-            at,
-            some,
-            outer,
-        };
-    };
-    if some {
-        return Found {
-            verdict: Verdict::Fine,
-            at,
-            some,
-            outer,
-        };
-    }
-    Found {
-        verdict: Verdict::Refused(refusal::refuse(23)),
-        at,
-        some,
-        outer,
-    }
+    outer.ok_or(refusal::refuse(23))
 }
 
 // The sense of the shell d[a..e].
-fn shell_sense(points: &[f64], v: &[u64], starts: &[u64], d: &[u64], a: usize, e: usize) -> Sensed
+#[tactic(auto, using(crate::specs::Steps::part_facets, crate::specs::Steps::part_sense))]
+fn shell_sense(
+    points: &[f64],
+    v: &[u64],
+    starts: &[u64],
+    d: &[u64],
+    a: usize,
+    e: usize,
+) -> Result<Sensed, Refusal>
     requires { Points points.now v.now × (a ≤ e) × (e ≤ length d.now) × Facets v.now starts.now (slice a e d.now) }
     ensures { sensed result ≡ volume_of points.now v.now starts.now (slice a e d.now) }
 {
@@ -110,28 +69,16 @@ pub fn find_outer(
     d: &[u64],
     c: &[u64],
     g: usize,
-) -> Found
+) -> Result<usize, Refusal>
     requires { Points points.now v.now × Shelled v.now starts.now f d.now c.now g }
-    ensures { Ordered (volume_of points.now v.now starts.now) (rows d.now c.now g) result.verdict result.outer }
+    ensures { Ordered (volume_of points.now v.now starts.now) (rows d.now c.now g) result }
 {
-    let mut m = Found {
-        verdict: Verdict::Fine,
-        at: 0,
-        some: false,
-        outer: 0,
-    };
-    while m.at < g {
-        let k = m.at;
+    let mut outer = None;
+    for k in 0..g {
         let a = c[k] as usize;
         let e = c[k + 1] as usize;
-        let s = shell_sense(points, v, starts, d, a, e);
-        let some = m.some;
-        let outer = m.outer;
-        m = place_shell(s, k, g, some, outer);
+        let sense = shell_sense(points, v, starts, d, a, e)?;
+        outer = place_shell(sense, k, outer)?;
     }
-    let verdict = m.verdict;
-    let some = m.some;
-    let at = m.at;
-    let outer = m.outer;
-    end_search(verdict, some, at, outer)
+    end_search(outer)
 }

@@ -8,13 +8,12 @@ ghost use Rattle.room.specs.Rooms.{plane_size, face_at, cell_at, counts_at};
 ghost use Rattle.cell.specs.Cells.{is_full, add_face, keep_face, left_cell, Stored, Fits, Turned, Ready};
 
 use polygon::Polygon;
-use refusal::Verdict;
+use refusal::Refusal;
 use space::Plane;
 
 // How many faces and corners the cell has.
 #[derive(Clone, Copy)]
 pub struct Kept {
-    pub verdict: Verdict,
     pub faces: usize,
     pub corners: usize,
 }
@@ -36,25 +35,16 @@ pub fn add_face(
     s: Kept,
     w: Plane,
     p: Polygon,
-) -> Kept
+) -> Result<Kept, Refusal>
     requires fits { Fits limit s dst.old at counts.old k }
     requires n_bound { (p.n ≤ 128) × (p.n ≡ length (corners_of p)) }
     ensures { Turned limit at k (λ c. add_face limit c (record { plane = w; points = corners_of p })) s result dst.old counts.old dst.new counts.new }
 {
-    let v = s.verdict;
     let faces = s.faces;
     let held = s.corners;
     let n = p.n;
-    let Verdict::Fine = v else {
-        return s;
-    };
     if is_full(limit, faces, held, n) {
-        let r = refusal::refuse(12);
-        return Kept {
-            verdict: Verdict::Refused(r),
-            faces,
-            corners: held,
-        };
+        return Err(refusal::refuse(12));
     }
     room::put_face(
         dst,
@@ -64,11 +54,10 @@ pub fn add_face(
         w,
         p,
     );
-    Kept {
-        verdict: v,
+    Ok(Kept {
         faces: faces + 1,
         corners: held + n,
-    }
+    })
 }
 
 // The same, but a face with fewer than three corners is dropped.
@@ -81,13 +70,13 @@ pub fn keep_face(
     s: Kept,
     w: Plane,
     p: Polygon,
-) -> Kept
+) -> Result<Kept, Refusal>
     requires fits { Fits limit s dst.old at counts.old k }
     requires n_bound { (p.n ≤ 128) × (p.n ≡ length (corners_of p)) }
     ensures { Turned limit at k (λ c. keep_face (ltb (length (corners_of p)) 3) limit c (record { plane = w; points = corners_of p })) s result dst.old counts.old dst.new counts.new }
 {
     if p.n < 3 {
-        return s;
+        return Ok(s);
     }
     add_face(limit, dst, at, counts, k, s, w, p)
 }
@@ -103,24 +92,15 @@ fn copy_face(
     counts: &mut [u64],
     k: usize,
     s: Kept,
-) -> Kept
+) -> Result<Kept, Refusal>
     requires fits { Fits limit s dst.old at counts.old k }
     requires n_bound { (n ≤ 128) × (o + plane_size + 3 * n ≤ length src.now) }
     ensures { Turned limit at k (λ c. add_face limit c (face_at src.now o n)) s result dst.old counts.old dst.new counts.new }
 {
-    let v = s.verdict;
     let faces = s.faces;
     let old = s.corners;
-    let Verdict::Fine = v else {
-        return s;
-    };
     if is_full(limit, faces, old, n) {
-        let r = refusal::refuse(12);
-        return Kept {
-            verdict: Verdict::Refused(r),
-            faces,
-            corners: old,
-        };
+        return Err(refusal::refuse(12));
     }
     room::copy_face(
         src,
@@ -131,11 +111,10 @@ fn copy_face(
         at + room::PLANE * faces + 3 * old,
         k + faces,
     );
-    Kept {
-        verdict: v,
+    Ok(Kept {
         faces: faces + 1,
         corners: old + n,
-    }
+    })
 }
 
 // A whole cell of another room: its floats stand from `from` on, its faces' numbers of corners from `j` on.
@@ -150,22 +129,19 @@ pub fn left_cell(
     at: usize,
     counts: &mut [u64],
     k: usize,
-) -> Kept
+) -> Result<Kept, Refusal>
     requires { Ready limit src.now from sizes.now j faces dst.old at counts.old k }
     ensures { Stored dst.old at counts.old k (left_cell limit (cell_at src.now from (counts_at sizes.now j faces))) result dst.new counts.new }
 {
     let mut s = Kept {
-        verdict: Verdict::Fine,
         faces: 0,
         corners: 0,
     };
     let mut o = from;
-    let mut i = 0;
-    while i < faces {
+    for i in 0..faces {
         let n = sizes[j + i] as usize;
-        s = copy_face(limit, src, o, n, dst, at, counts, k, s);
+        s = copy_face(limit, src, o, n, dst, at, counts, k, s)?;
         o = o + room::PLANE + 3 * n;
-        i += 1;
     }
-    s
+    Ok(s)
 }

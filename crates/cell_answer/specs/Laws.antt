@@ -1,14 +1,12 @@
 -- Laws of the writing of solids, one after another, in the words of the code.
-use Rattle.std.specs.Prelude.{◌≡◌, refl, ℕ, suc, ◌+◌, ◌-◌, ◌*◌, ◌≤◌, ◌<◌, take, drop, get_or, Float}
+use Rattle.std.specs.Prelude.{◌≡◌, refl, ℕ, suc, ◌+◌, ◌-◌, ◌*◌, ◌≤◌, ◌<◌, take, drop, get_or, Float, Ok, Err}
 use Rattle.std.proofs.Common.{sym, ap₂, ◌∙◌, subst, arith, length-drop, take_all, take_at}
 use Rattle.std.proofs.Math.Path.{ap}
 use mathlib.Core.List.{List, [], ◌∷◌, ◌++◌, append_assoc, append-nil, map}
 use Rattle.std.proofs.Math.ListN.{length, length-append, length-map}
 use Rattle.std.proofs.Math.Seq.{sets, length-sets}
 use Rattle.refusal.specs.declared.Refusal.{Refusal}
-use Rattle.refusal.specs.declared.Verdict.{Verdict}
-use Rattle.refusal.specs.declared.Verdict.TheVariants as D
-use Rattle.refusal.specs.Outcome.{Outcome, ok, refused, then, heard}
+use Rattle.refusal.specs.Outcome.{Outcome, then, heard}
 use Rattle.space.specs.Shapes.{Solid}
 use Rattle.polygon.specs.Memory.{floats_of}
 use Rattle.room.specs.Rooms.{counts_at}
@@ -240,30 +238,30 @@ module _ {ss : List Solid} {out₀ out : List ℕ} {p q f at j : ℕ} (W : Putti
 
 -- ---- what the verdict tells
 
-module _ (room k : ℕ) (v : Verdict) (P : List Float) (I C z m : List ℕ) (H : Holding room k v P I C z m) where
+module _ (room k : ℕ) (v : Outcome Unit) (P : List Float) (I C z m : List ℕ) (H : Holding room k v P I C z m) where
   abbrev told : Outcome (List Solid)
   told = solids_told v k P I C z m
 
-  tells : v ≡ D.Fine → solids_told v k P I C z m ≡ ok (solids_at P I C (take k m) (take k z))
+  tells : v ≡ Ok tt → solids_told v k P I C z m ≡ Ok (solids_at P I C (take k m) (take k z))
   unfolding solids_told heard
   tells e = ap (λ v. heard v (solids_at P I C (take k m) (take k z))) e
 
-  pub tells_lain : v ≡ D.Fine → Lain room k (solids_at P I C (take k m) (take k z)) P I C z m
+  pub tells_lain : v ≡ Ok tt → Lain room k (solids_at P I C (take k m) (take k z)) P I C z m
   tells_lain e = H.lain _ (tells e)
 
-  pub tells_many : v ≡ D.Fine → k ≡ length (solids_at P I C (take k m) (take k z))
+  pub tells_many : v ≡ Ok tt → k ≡ length (solids_at P I C (take k m) (take k z))
   tells_many e = (tells_lain e).many
 
-  pub ended_before : (r : Refusal) (out : List ℕ) → v ≡ D.Refused r →
+  pub ended_before : (r : Refusal) (out : List ℕ) → v ≡ Err r →
       ((◌≡◌ {A = Ended} (record { verdict = v; bytes = 0 }) (ended_of (then (solids_told v k P I C z m) solids_answer))) × (0 ≤ 32 * room)) × (out ≡ written (then (solids_told v k P I C z m) solids_answer) out)
   unfolding solids_told heard ended_of written
   ended_before r out e =
-      let o : then (solids_told v k P I C z m) solids_answer ≡ refused r = ap (λ v. then (heard v (solids_at P I C (take k m) (take k z))) solids_answer) e in
+      let o : then (solids_told v k P I C z m) solids_answer ≡ Err r = ap (λ v. then (heard v (solids_at P I C (take k m) (take k z))) solids_answer) e in
       ((ap (λ v. record { verdict = v; bytes = 0 }) e ∙ ap ended_of (sym o), omega arith), ap (λ o. written o out) (sym o))
 
-  pub ended_end : v ≡ D.Fine → (out₀ out : List ℕ) (at : ℕ) → (at ≡ length (row solid_answer (solids_at P I C (take k m) (take k z)))) × (out ≡ sets out₀ 0 (row solid_answer (solids_at P I C (take k m) (take k z)))) →
-      ((◌≡◌ {A = Ended} (record { verdict = D.Fine; bytes = at }) (ended_of (then (solids_told v k P I C z m) solids_answer))) × (at ≤ 32 * room)) × (out ≡ written (then (solids_told v k P I C z m) solids_answer) out₀)
+  pub ended_end : v ≡ Ok tt → (out₀ out : List ℕ) (at : ℕ) → (at ≡ length (row solid_answer (solids_at P I C (take k m) (take k z)))) × (out ≡ sets out₀ 0 (row solid_answer (solids_at P I C (take k m) (take k z)))) →
+      ((◌≡◌ {A = Ended} (record { verdict = Ok tt; bytes = at }) (ended_of (then (solids_told v k P I C z m) solids_answer))) × (at ≤ 32 * room)) × (out ≡ written (then (solids_told v k P I C z m) solids_answer) out₀)
   unfolding solids_answer ended_of written
   ended_end e out₀ out at h =
-      let o : then (solids_told v k P I C z m) solids_answer ≡ ok (row solid_answer (solids_at P I C (take k m) (take k z))) = ap (λ o. then o solids_answer) (tells e) in
-      ((ap (λ n. record { verdict = D.Fine; bytes = n }) h.0 ∙ ap ended_of (sym o), omega (arith, h.0, solids_fit _ _ _ _ _ _ _ _ (tells_lain e))), h.1 ∙ ap (λ o. written o out₀) (sym o))
+      let o : then (solids_told v k P I C z m) solids_answer ≡ Ok (row solid_answer (solids_at P I C (take k m) (take k z))) = ap (λ o. then o solids_answer) (tells e) in
+      ((ap (λ n. record { verdict = Ok tt; bytes = n }) h.0 ∙ ap ended_of (sym o), omega (arith, h.0, solids_fit _ _ _ _ _ _ _ _ (tells_lain e))), h.1 ∙ ap (λ o. written o out₀) (sym o))

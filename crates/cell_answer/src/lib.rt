@@ -8,13 +8,13 @@ ghost use Rattle.ended.specs.Ends.{ended_of, written};
 ghost use Rattle.cell_answer.specs.Solids.{solids_answer};
 
 use ended::Ended;
-use refusal::Verdict;
+use refusal::Refusal;
 
 // The solids that lie in the slices are written from the front of `out` on, which has 64 bytes for each corner of the room; a refusal
 // is handed on, and leaves `out` as it is.
 pub fn put_solids(
     limit: usize,
-    v: Verdict,
+    v: Result<(), Refusal>,
     many: usize,
     points: &[f64],
     places: &[u64],
@@ -27,7 +27,7 @@ pub fn put_solids(
     ensures value { (result ≡ ended_of (then (solids_told v many points.now places.now counts.now sizes.now marks.now) solids_answer)) × (result.bytes ≤ 32 * limit) }
     ensures out_after { out.new ≡ written (then (solids_told v many points.now places.now counts.now sizes.now marks.now) solids_answer) out.old }
 {
-    let Verdict::Fine = v else {
+    let Ok(()) = v else {
         return Ended {
             verdict: v,
             bytes: 0,
@@ -37,8 +37,7 @@ pub fn put_solids(
     let mut q = 0;
     let mut f = 0;
     let mut at = 0;
-    let mut j = 0;
-    while j < many {
+    for j in 0..many {
         let m = marks[j] as usize;
         let n = sizes[j] as usize;
         let c = finish::corners_of(counts, f, n, limit);
@@ -46,10 +45,9 @@ pub fn put_solids(
         p += 3 * m;
         q += c;
         f += n;
-        j += 1;
     }
     Ended {
-        verdict: Verdict::Fine,
+        verdict: Ok(()),
         bytes: at,
     }
 }

@@ -1,6 +1,6 @@
 -- Difference, intersection and union as cells, with the room (12). Definitions only.
-use Rattle.std.specs.Prelude.{ℕ, List, []}
-use Rattle.refusal.specs.Outcome.{Outcome, ok, then, walk}
+use Rattle.std.specs.Prelude.{ℕ, List, [], Ok}
+use Rattle.refusal.specs.Outcome.{Outcome, then, walk}
 use Rattle.space.specs.declared.Precision.{Precision}
 use Rattle.space.specs.Shapes.{Cell, part}
 use Rattle.stack.specs.Stacks.{add_cell, add_part}
@@ -10,7 +10,7 @@ use Rattle.job.specs.declared.Operation.{Operation}
 use Rattle.job.specs.declared.Operation.TheVariants.{Intersection, Difference, Union}
 
 unfoldable pub minus : Precision → ℕ → Cell → Cell → Outcome (List Cell)
-minus t room a b = then (walk (carve t room) (record { rest = part a; out = [] }) b) (λ s. ok s.out)
+minus t room a b = then (walk (carve t room) (record { rest = part a; out = [] }) b) (λ s. Ok s.out)
 
 unfoldable pub common : Precision → ℕ → Cell → Cell → Outcome (List Cell)
 common t room a b = then (walk (clip_face t room) (part a) b) (add_part room [])

@@ -1,13 +1,11 @@
 -- Laws of the walks over the second cell, in the words of the code.
-use Rattle.std.specs.Prelude.{◌≡◌, true, false, ℕ, ◌+◌, ◌*◌, ◌≤◌, ◌<◌, length, drop, Float}
+use Rattle.std.specs.Prelude.{◌≡◌, true, false, ℕ, ◌+◌, ◌*◌, ◌≤◌, ◌<◌, length, drop, Float, Ok, Err}
 use Rattle.std.proofs.Math.Path.{refl, ap, subst}
 use Rattle.std.proofs.Common.{sym, ◌∙◌, arith}
 use mathlib.Core.List.{List, []}
 use Rattle.std.proofs.Math.ListN.{get_or}
 use Rattle.refusal.specs.declared.Refusal.{Refusal}
-use Rattle.refusal.specs.declared.Verdict.{Verdict}
-use Rattle.refusal.specs.declared.Verdict.TheVariants.{Fine, Refused}
-use Rattle.refusal.specs.Outcome.{ok, refused, then, walk, heard}
+use Rattle.refusal.specs.Outcome.{Outcome, then, walk, heard}
 use Rattle.space.specs.declared.Plane.{Plane}
 use Rattle.space.specs.declared.Precision.{Precision}
 use Rattle.space.specs.Shapes.{Cell, nothing, part}
@@ -51,15 +49,15 @@ pub record Walking (t : Precision) (room : ℕ) (a : Cell) (src : List Float) (f
   pub rest : onward (carve t room) (carving_at s d n f m z) (cell_at src o (drop i (counts_at ns j many))) ≡ walk (carve t room) (record { rest = part a; out = [] }) (cell_at src from (counts_at ns j many))
 
 module _ (t : Precision) (room : ℕ) (a : Cell) (src : List Float) (from : ℕ) (ns : List ℕ) (j many : ℕ) where
-  pub walking_start : (list : Stack) (faces : ℕ) (d : List Float) (n : List ℕ) (f : List Float) (m z : List ℕ) → Ahead src ns j many from 0 → list ≡ stack_of (ok []) → Sits faces d n → a ≡ cell_at d 0 (counts_at n 0 faces) →
-      Walking t room a src from ns j many (record { rest = record { verdict = Fine; some = true; faces = faces }; list = list }) d n f m z from 0
+  pub walking_start : (list : Stack) (faces : ℕ) (d : List Float) (n : List ℕ) (f : List Float) (m z : List ℕ) → Ahead src ns j many from 0 → list ≡ stack_of (Ok []) → Sits faces d n → a ≡ cell_at d 0 (counts_at n 0 faces) →
+      Walking t room a src from ns j many (record { rest = record { verdict = Ok tt; some = true; faces = faces }; list = list }) d n f m z from 0
   unfolding carving_at rest_at part_at heard stack_of
   walking_start list faces d n f m z h e k ea =
       let l = listed_none room list f m z e in
       record {
         ahead = h;
-        ready = record { kept = record { sits = λ x. k; fine = λ x. refl }; holds = holds room (ok []) list f m z l; fine = λ x. ap (λ y. y.verdict) e };
-        rest = ap (λ y. onward (carve t room) (then y (λ cs. carving (part (cell_at d 0 (counts_at n 0 faces))) cs)) (cell_at src from (counts_at ns j many))) (listed_is room (ok []) list f m z l)
+        ready = record { kept = record { sits = λ x. k; fine = λ x. refl }; holds = holds room (Ok []) list f m z l; fine = λ x. ap (λ y. y.verdict) e };
+        rest = ap (λ y. onward (carve t room) (then y (λ cs. carving (part (cell_at d 0 (counts_at n 0 faces))) cs)) (cell_at src from (counts_at ns j many))) (listed_is room (Ok []) list f m z l)
             ∙ ap (λ y. walk (carve t room) (record { rest = part y; out = [] }) (cell_at src from (counts_at ns j many))) (sym ea);
       }
 
@@ -84,7 +82,7 @@ module _ (t : Precision) (room : ℕ) (a : Cell) (src : List Float) (from : ℕ)
       r ≡ ended s.list.verdict s.rest.verdict s.list → Listed room (minus t room a (cell_at src from (counts_at ns j many))) r f m z
   unfolding minus
   walking_end s r d n f m z o i h c e =
-      subst (λ y. Listed room (then y (λ x. ok x.out)) r f m z)
+      subst (λ y. Listed room (then y (λ x. Ok x.out)) r f m z)
       (sym (onward_end (carve t room) (carving_at s d n f m z)) ∙ ap (onward (carve t room) (carving_at s d n f m z)) (sym (ahead_done src ns j many o i h)) ∙ c.rest)
       (ended_listed room s d n f m z c.ready r e)
 
@@ -97,7 +95,7 @@ pub record Meeting (t : Precision) (room : ℕ) (a : Cell) (src : List Float) (f
 
 module _ (t : Precision) (room : ℕ) (a : Cell) (src : List Float) (from : ℕ) (ns : List ℕ) (j many : ℕ) where
   pub meeting_start : (faces : ℕ) (d : List Float) (n : List ℕ) → Ahead src ns j many from 0 → Sits faces d n → a ≡ cell_at d 0 (counts_at n 0 faces) →
-      Meeting t room a src from ns j many (record { verdict = Fine; some = true; faces = faces }) d n from 0
+      Meeting t room a src from ns j many (record { verdict = Ok tt; some = true; faces = faces }) d n from 0
   unfolding rest_at part_at heard
   meeting_start faces d n h k ea = record {
     ahead = h;
@@ -128,20 +126,20 @@ module _ (t : Precision) (room : ℕ) (a : Cell) (src : List Float) (from : ℕ)
 
 -- ---- the single cell joins a list
 
-pub listed_begun : (room : ℕ) (v : Verdict) (l : Stack) (f : List Float) (m z : List ℕ) → l ≡ stack_of (heard v []) → Listed room (heard v []) l f m z
+pub listed_begun : (room : ℕ) (v : Outcome Unit) (l : Stack) (f : List Float) (m z : List ℕ) → l ≡ stack_of (heard v []) → Listed room (heard v []) l f m z
 unfolding heard
-listed_begun room Fine l f m z e = listed_none room l f m z e
-listed_begun room (Refused r) l f m z e = listed_refused room r l f m z e
+listed_begun room (Ok tt) l f m z e = listed_none room l f m z e
+listed_begun room (Err r) l f m z e = listed_refused room r l f m z e
 
-begun_nothing : (room : ℕ) (v : Verdict) → heard v [] ≡ then (heard v nothing) (add_part room [])
+begun_nothing : (room : ℕ) (v : Outcome Unit) → heard v [] ≡ then (heard v nothing) (add_part room [])
 unfolding heard add_part
-begun_nothing room Fine = refl
-begun_nothing room (Refused r) = refl
+begun_nothing room (Ok tt) = refl
+begun_nothing room (Err r) = refl
 
-begun_part : (room : ℕ) (v : Verdict) (c : Cell) → then (heard v []) (λ cs. add_cell room cs c) ≡ then (heard v (part c)) (add_part room [])
+begun_part : (room : ℕ) (v : Outcome Unit) (c : Cell) → then (heard v []) (λ cs. add_cell room cs c) ≡ then (heard v (part c)) (add_part room [])
 unfolding heard add_part
-begun_part room Fine c = refl
-begun_part room (Refused r) c = refl
+begun_part room (Ok tt) c = refl
+begun_part room (Err r) c = refl
 
 module _ (room : ℕ) (s : Rest) (l : Stack) (d : List Float) (n : List ℕ) (f : List Float) (m z : List ℕ) (e : l ≡ stack_of (heard s.verdict [])) where
   pub settled_nothing : s.some ≡ false → Listed room (then (rest_at s d n) (add_part room [])) l f m z
@@ -159,11 +157,11 @@ module _ (room : ℕ) (s : Rest) (l : Stack) (d : List Float) (n : List ℕ) (f 
 
 -- ---- the operations
 
-pub begun_fine : (v : Verdict) (r : Stack) → r ≡ stack_of (ok []) → v ≡ Fine → r ≡ stack_of (heard v [])
+pub begun_fine : (v : Outcome Unit) (r : Stack) → r ≡ stack_of (Ok []) → v ≡ Ok tt → r ≡ stack_of (heard v [])
 unfolding heard
 begun_fine v r e q = e ∙ ap (λ y. stack_of (heard y [])) (sym q)
 
-pub begun_refused : (v : Verdict) (e : Refusal) (r : Stack) → r ≡ stack_of (refused e) → v ≡ Refused e → r ≡ stack_of (heard v [])
+pub begun_refused : (v : Outcome Unit) (e : Refusal) (r : Stack) → r ≡ stack_of (Err e) → v ≡ Err e → r ≡ stack_of (heard v [])
 unfolding heard
 begun_refused v e r er q = er ∙ ap (λ y. stack_of (heard y [])) (sym q)
 

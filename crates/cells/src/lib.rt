@@ -13,7 +13,7 @@ ghost use Rattle.cells.specs.Cells.{minus, common, both, cells};
 
 pub use carving::{Carved, Rest};
 use job::Operation;
-use refusal::Verdict;
+use refusal::Refusal;
 use space::Precision;
 use stack::Stack;
 
@@ -47,15 +47,14 @@ pub fn difference(
     let mut chain = [0u64; 2048];
     let mut s = Carved {
         rest: Rest {
-            verdict: Verdict::Fine,
+            verdict: Ok(()),
             some: true,
             faces,
         },
         list: stack::empty(),
     };
     let mut o = from;
-    let mut i = 0;
-    while i < many {
+    for i in 0..many {
         let n = corners[j + i] as usize;
         let w = room::get_plane(src, o);
         s = carving::carve(
@@ -63,17 +62,16 @@ pub fn difference(
             &mut flat, &mut order, &mut chain,
         );
         o = o + room::PLANE + 3 * n;
-        i += 1;
     }
     carving::end(s)
 }
 
-fn begun(v: Verdict) -> Stack
+fn begun(v: Result<(), Refusal>) -> Stack
     ensures { result ≡ stack_of (heard v []) }
 {
     match v {
-        Verdict::Fine => stack::empty(),
-        Verdict::Refused(e) => stack::gone(e),
+        Ok(()) => stack::empty(),
+        Err(e) => stack::gone(e),
     }
 }
 
@@ -129,13 +127,12 @@ pub fn intersection(
     let mut order = [0u64; 1024];
     let mut chain = [0u64; 2048];
     let mut s = Rest {
-        verdict: Verdict::Fine,
+        verdict: Ok(()),
         some: true,
         faces,
     };
     let mut o = from;
-    let mut i = 0;
-    while i < many {
+    for i in 0..many {
         let n = corners[j + i] as usize;
         let plane = room::get_plane(src, o);
         s = carving::cut_rest(
@@ -143,7 +140,6 @@ pub fn intersection(
             &mut order, &mut chain,
         );
         o = o + room::PLANE + 3 * n;
-        i += 1;
     }
     settle(limit, s, rest, held, dst, counts, sizes)
 }

@@ -1,13 +1,11 @@
 -- Laws of the call, in the words of the code.
-use Rattle.std.specs.Prelude.{◌≡◌, Bool, true, ◌&&◌, List, ℕ, ◌+◌, ◌*◌, ◌/◌, ◌≤◌, length, Float}
+use Rattle.std.specs.Prelude.{◌≡◌, refl, Bool, true, ◌&&◌, List, ℕ, ◌+◌, ◌*◌, ◌/◌, ◌≤◌, length, Float, Ok, Err}
 use Rattle.std.proofs.Math.Path.{sym, ap, subst}
 use Rattle.std.proofs.Common.{◌∙◌, arith}
 use Rattle.std.proofs.Math.Dec.{leb, ltb}
 use borrow.Author.Tests.{leb-true, ltb-true}
 use Rattle.refusal.specs.declared.Refusal.{Refusal}
-use Rattle.refusal.specs.declared.Verdict.{Verdict}
-use Rattle.refusal.specs.declared.Verdict.TheVariants as D
-use Rattle.refusal.specs.Outcome.{refused, then}
+use Rattle.refusal.specs.Outcome.{Outcome, then}
 use Rattle.refusal.specs.Laws.{stop, go}
 use Rattle.refusal.specs.Tests.{and_true}
 use Rattle.room.specs.Rooms.{cell_at, counts_at}
@@ -25,9 +23,6 @@ use Rattle.cell_answer.specs.Solids.{solids_answer}
 use Rattle.ended.specs.declared.Ended.{Ended}
 use Rattle.ended.specs.Ends.{stopped, ended_of, written}
 use Rattle.job.specs.declared.Layout.{Layout}
-use Rattle.job.specs.declared.Laid.{Laid}
-use Rattle.job.specs.declared.Laid.TheVariants as J
-use Rattle.job.specs.Read.{laid}
 use Rattle.intake.specs.Layouts.{Stood}
 use Rattle.jobs.specs.declared.Pair.{Pair}
 use Rattle.jobs.specs.Jobs.{open_job, both_of, TookBoth}
@@ -111,19 +106,19 @@ module _ (room : ℕ) (answer : List ℕ) (rest spare dst : List Float) (held sl
 
 -- ---- the two solids, and their cells
 
-module _ (l : List ℕ) (y : Layout) (r : Pair) (a : List Float) (held : List ℕ) (b : List Float) (corners : List ℕ) (T : TookBoth (both_of l y) r a held b corners) where
-  pub cut_stop : (room : ℕ) (q : Refusal) (d : List Float) (n z : List ℕ) → r.verdict ≡ D.Refused q → Listed room (then (both_of l y) (cut_both room y)) (record { verdict = r.verdict; cells = 0; faces = 0; corners = 0 }) d n z
+module _ (l : List ℕ) (y : Layout) (r : Outcome Pair) (a : List Float) (held : List ℕ) (b : List Float) (corners : List ℕ) (T : TookBoth (both_of l y) r a held b corners) where
+  pub cut_stop : (room : ℕ) (q : Refusal) (d : List Float) (n z : List ℕ) → r ≡ Err q → Listed room (then (both_of l y) (cut_both room y)) (record { verdict = Err q; cells = 0; faces = 0; corners = 0 }) d n z
   unfolding stack_of
   cut_stop room q d n z v =
-      let s : Stack = record { verdict = r.verdict; cells = 0; faces = 0; corners = 0 } in
-      subst (λ o. Listed room o s d n z) (sym (pair_stop l y r a held b corners T (cut_both room y) q v)) (listed_refused room q s d n z (ap {B = Stack} (λ x. record { verdict = x; cells = 0; faces = 0; corners = 0 }) v))
+      let s : Stack = record { verdict = Err q; cells = 0; faces = 0; corners = 0 } in
+      subst (λ o. Listed room o s d n z) (sym (pair_stop l y r a held b corners T (cut_both room y) q v)) (listed_refused room q s d n z refl)
 
   -- the cells in their rooms
-  pub cut_given : r.verdict ≡ D.Fine → Sits r.first a held × Given b 0 corners 0 r.second × Wide (cell_at b 0 (counts_at corners 0 r.second)) × (1 ≤ r.second) × (r.second ≤ 128)
-  cut_given v =
-      let p = pair_cells l y r a held b corners T v in
-      let f = p.2 in
-      let s = p.3 in (
+  pub cut_given : (p : Pair) → r ≡ Ok p → Sits p.first a held × Given b 0 corners 0 p.second × Wide (cell_at b 0 (counts_at corners 0 p.second)) × (1 ≤ p.second) × (p.second ≤ 128)
+  cut_given p v =
+      let q = pair_cells l y r a held b corners T p v in
+      let f = q.2 in
+      let s = q.3 in (
         record { given = record { listed = f.listed; within = f.within }; wide = f.wide; some = omega (arith, f.some); few = omega (arith, f.few) },
         record { listed = s.listed; within = s.within },
         s.wide,
@@ -131,9 +126,9 @@ module _ (l : List ℕ) (y : Layout) (r : Pair) (a : List Float) (held : List �
         omega (arith, s.few),
       )
 
-  pub cut_go : (room : ℕ) (s : Stack) (d : List Float) (n z : List ℕ) → r.verdict ≡ D.Fine →
-      Listed room (cells y.operation y.precision room (cell_at a 0 (counts_at held 0 r.first)) (cell_at b 0 (counts_at corners 0 r.second))) s d n z → Listed room (then (both_of l y) (cut_both room y)) s d n z
-  cut_go room s d n z v L = subst (λ o. Listed room o s d n z) (pair_go l y r a held b corners T (cells y.operation y.precision room) v) L
+  pub cut_go : (room : ℕ) (s : Stack) (d : List Float) (n z : List ℕ) (p : Pair) → r ≡ Ok p →
+      Listed room (cells y.operation y.precision room (cell_at a 0 (counts_at held 0 p.first)) (cell_at b 0 (counts_at corners 0 p.second))) s d n z → Listed room (then (both_of l y) (cut_both room y)) s d n z
+  cut_go room s d n z p v L = subst (λ o. Listed room o s d n z) (pair_go l y r a held b corners T (cells y.operation y.precision room) p v) L
 
 -- ---- the list, its solids, and their bytes
 
@@ -141,7 +136,7 @@ module _ (l : List ℕ) (room : ℕ) (y : Layout) (s : Stack) (d : List Float) (
   pub cut_holds : Holds room s d n z
   cut_holds = holds room (then (both_of l y) (cut_both room y)) s d n z L
 
-  pub laid_is : (v : Verdict) (p : List Float) (i m : List ℕ) → Finished room s.cells (then (list_at s d n z) (finish y.precision)) v p i n z m → then (solids_told v s.cells p i n z m) solids_answer ≡ cells_laid l room y
+  pub laid_is : (v : Outcome Unit) (p : List Float) (i m : List ℕ) → Finished room s.cells (then (list_at s d n z) (finish y.precision)) v p i n z m → then (solids_told v s.cells p i n z m) solids_answer ≡ cells_laid l room y
   unfolding cells_laid cells_call
   laid_is v p i m F =
       ap (λ o. then o solids_answer) (told_is room s.cells (then (list_at s d n z) (finish y.precision)) v p i n z m F ∙ ap (λ o. then o (finish y.precision)) (listed_is room (then (both_of l y) (cut_both room y)) s d n z L))
@@ -150,24 +145,23 @@ module _ (l : List ℕ) (room : ℕ) (y : Layout) (s : Stack) (d : List Float) (
 
 -- ---- the job
 
-pub entry_opened : (enough : Bool) (l : List ℕ) (c : Laid) (y : Layout) → laid c ≡ open_job enough l → c ≡ J.Made y → (enough ≡ true) × Stood l y.first × Stood l y.second
-unfolding laid
-entry_opened enough l c y e g = job_opened enough l y (sym e ∙ ap laid g)
+pub entry_opened : (enough : Bool) (l : List ℕ) (c : Outcome Layout) (y : Layout) → c ≡ open_job enough l → c ≡ Ok y → (enough ≡ true) × Stood l y.first × Stood l y.second
+entry_opened enough l c y e g = job_opened enough l y (sym e ∙ g)
 
 module _ (enough : Bool) (room : ℕ) (l : List ℕ) where
-  pub entry_made : (c : Laid) (y : Layout) (k : ℕ) (v : Verdict) (p : List Float) (i n z m : List ℕ) (r : Ended) (answer answer' : List ℕ) → laid c ≡ open_job enough l → c ≡ J.Made y → room ≤ 4294967296 →
+  pub entry_made : (c : Outcome Layout) (y : Layout) (k : ℕ) (v : Outcome Unit) (p : List Float) (i n z m : List ℕ) (r : Ended) (answer answer' : List ℕ) → c ≡ open_job enough l → c ≡ Ok y → room ≤ 4294967296 →
       then (solids_told v k p i n z m) solids_answer ≡ cells_laid l room y →
       ((r ≡ ended_of (then (solids_told v k p i n z m) solids_answer)) × (r.bytes ≤ 32 * room)) × (answer' ≡ written (then (solids_told v k p i n z m) solids_answer) answer) →
       ((r ≡ ended_of (cells_entry enough room l)) × (r.bytes ≤ 137438953472)) × (answer' ≡ written (cells_entry enough room l) answer)
-  unfolding laid cells_entry
+  unfolding cells_entry
   entry_made c y k v p i n z m r answer answer' e g low w h =
-      let q : then (solids_told v k p i n z m) solids_answer ≡ cells_entry enough room l = w ∙ sym (go (open_job enough l) (cells_laid l room) y (sym e ∙ ap laid g)) in
+      let q : then (solids_told v k p i n z m) solids_answer ≡ cells_entry enough room l = w ∙ sym (go (open_job enough l) (cells_laid l room) y (sym e ∙ g)) in
       ((h.0.0 ∙ ap ended_of q, omega (arith, low, h.0.1)), h.1 ∙ ap (λ o. written o answer) q)
 
-  pub entry_refused : (c : Laid) (q : Refusal) (r : Ended) (answer : List ℕ) → laid c ≡ open_job enough l → c ≡ J.Refused q → r ≡ stopped q →
+  pub entry_refused : (c : Outcome Layout) (q : Refusal) (r : Ended) (answer : List ℕ) → c ≡ open_job enough l → c ≡ Err q → r ≡ stopped q →
       ((r ≡ ended_of (cells_entry enough room l)) × (r.bytes ≤ 137438953472)) × (answer ≡ written (cells_entry enough room l) answer)
-  unfolding laid cells_entry ended_of written
+  unfolding cells_entry ended_of written
   entry_refused c q r answer e g h =
-      let w : refused q ≡ cells_entry enough room l = sym (stop (open_job enough l) (cells_laid l room) q (sym e ∙ ap laid g)) in
+      let w : Err q ≡ cells_entry enough room l = sym (stop (open_job enough l) (cells_laid l room) q (sym e ∙ g)) in
       let z : r.bytes ≡ 0 = ap (λ k. k.bytes) h in
       ((h ∙ ap ended_of w, omega (arith, z)), ap (λ o. written o answer) w)

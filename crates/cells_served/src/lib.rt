@@ -12,8 +12,8 @@ ghost use Rattle.jobs.specs.Jobs.{both_of};
 ghost use Rattle.cells_served.specs.Entry.{cut_both, lends, cells_entry};
 
 use ended::Ended;
-use job::{Laid, Layout};
-use refusal::Verdict;
+use job::Layout;
+use refusal::Refusal;
 use stack::Stack;
 
 // The solids of the job are taken, the first into `rest`, and the cells of its operation listed in `dst`, `counts` and `sizes`. The second
@@ -36,36 +36,35 @@ fn cut_job(
 {
     let mut src = [0.0; 1984];
     let mut corners = [0u64; 64];
-    let pair = jobs::take_both(job, y, rest, held, &mut src, &mut corners);
-    let v = pair.verdict;
-    let Verdict::Fine = v else {
-        return Stack {
-            verdict: v,
+    let o = y.operation;
+    let t = y.precision;
+    let taken = jobs::take_both(job, y, rest, held, &mut src, &mut corners);
+    match taken {
+        Err(r) => Stack {
+            verdict: Err(r),
             cells: 0,
             faces: 0,
             corners: 0,
-        };
-    };
-    let o = y.operation;
-    let t = y.precision;
-    cells::boolean_cells(
-        o,
-        t,
-        limit,
-        pair.first,
-        &src,
-        0,
-        &corners,
-        0,
-        pair.second,
-        rest,
-        held,
-        spare,
-        slots,
-        dst,
-        counts,
-        sizes,
-    )
+        },
+        Ok(pair) => cells::boolean_cells(
+            o,
+            t,
+            limit,
+            pair.first,
+            &src,
+            0,
+            &corners,
+            0,
+            pair.second,
+            rest,
+            held,
+            spare,
+            slots,
+            dst,
+            counts,
+            sizes,
+        ),
+    }
 }
 
 // At most 2^37 bytes: 32 for each corner of a room of at most 2^32.
@@ -95,7 +94,7 @@ pub fn served(
 {
     let read = jobs::open_job(job, enough);
     match read {
-        Laid::Made(y) => {
+        Ok(y) => {
             let t = y.precision;
             let s = cut_job(job, y, limit, rest, spare, dst, held, slots, counts, sizes);
             let k = s.cells;
@@ -105,6 +104,6 @@ pub fn served(
             );
             cell_answer::put_solids(limit, v, k, rest, held, counts, sizes, slots, answer)
         }
-        Laid::Refused(r) => ended::stop(r),
+        Err(r) => ended::stop(r),
     }
 }

@@ -2,14 +2,14 @@
 -- or more where every face of the cell has, and nothing before the places is touched.
 use Rattle.std.proofs.Math.Path.{◌≡◌, refl, subst}
 use Rattle.std.proofs.Common.{sym, ap, ◌∙◌, arith, ltb-false}
-use Rattle.std.specs.Prelude.{Bool, ℕ, suc, ◌≤◌, take, set, ltb, Float}
+use Rattle.std.specs.Prelude.{Bool, ℕ, suc, ◌≤◌, take, set, ltb, Float, Ok}
 use Rattle.std.proofs.Math.Bool.{true, false}
 use Rattle.std.proofs.Math.Logic.{⊎_elim}
 use mathlib.Core.List.{List, [], ◌∷◌}
 use Rattle.std.proofs.Math.ListN.{length, length-append}
 use Rattle.std.proofs.lemmas.List.Edits.{sets}
 use Rattle.std.proofs.lemmas.List.{take-set-le}
-use Rattle.refusal.specs.Outcome.{Outcome, ok, walk}
+use Rattle.refusal.specs.Outcome.{Outcome, walk}
 use Rattle.refusal.specs.Laws.{same_ok, then_ok, unless_ok}
 use Rattle.space.specs.declared.Plane.{Plane}
 use Rattle.space.specs.declared.Precision.{Precision}
@@ -24,24 +24,23 @@ use Rattle.room.specs.Laws.{corners_none, corners_snoc, all_none, all_snoc, all_
 use Rattle.room.specs.Steps.{walk_keeps}
 use Rattle.cell.specs.Cells.{is_full, add_face, keep_face, left_cell}
 use Rattle.cell.specs.Laws.{not_full}
-use Rattle.clip.specs.declared.Clipped.{Clipped}
 use Rattle.clip.specs.Cuts.{signs_of, Cutting, joined, cut_face, closed, cut_faces, cut_cell, as_part, clip_by, clip}
-use Rattle.clip.specs.Clips.{Wide, Clips}
+use Rattle.clip.specs.Clips.{Clipped, Wide, Clips}
 use Rattle.clip.specs.Theorem.{part_of}
 
-add_wide : (room : ℕ) (c c' : Cell) (f : Face) → add_face room c f ≡ ok c' → 3 ≤ length f.points → Wide c → Wide c'
+add_wide : (room : ℕ) (c c' : Cell) (f : Face) → add_face room c f ≡ Ok c' → 3 ≤ length f.points → Wide c → Wide c'
 unfolding add_face
 add_wide room c c' f e p a =
     let g = unless_ok (is_full room (length c) (corners 0 c) (length f.points)) 12 _ c' e in
     subst Wide (same_ok g.1) (all_snoc _ c f a p)
 
-keep_wide : (b : Bool) (room : ℕ) (c c' : Cell) (f : Face) → ltb (length f.points) 3 ≡ b → keep_face b room c f ≡ ok c' → Wide c → Wide c'
+keep_wide : (b : Bool) (room : ℕ) (c c' : Cell) (f : Face) → ltb (length f.points) 3 ≡ b → keep_face b room c f ≡ Ok c' → Wide c → Wide c'
 unfolding keep_face
 keep_wide true room c c' f h e a = subst Wide (same_ok e) a
 keep_wide false room c c' f h e a = add_wide room c c' f e (ltb-false (length f.points) 3 h) a
 
 module _ (t : Precision) (room : ℕ) (w : Plane) where
-  face_wide : (f : Face) (s s' : Cutting) → cut_face t room w s f ≡ ok s' → Wide s.cell → Wide s'.cell
+  face_wide : (f : Face) (s s' : Cutting) → cut_face t room w s f ≡ Ok s' → Wide s.cell → Wide s'.cell
   unfolding cut_face joined
   face_wide f s s' e a =
       let r = then_ok (cut_ring t w s.cap f.points) (joined t room s.cell f.plane) s' e in
@@ -49,7 +48,7 @@ module _ (t : Precision) (room : ℕ) (w : Plane) where
       let k = then_ok (keep_face (ltb (length u.0) 3) room s.cell (record { plane = f.plane; points = u.0 })) _ s' u.2 in
       subst (λ x. Wide x.cell) (same_ok k.2) (keep_wide _ room s.cell k.0 (record { plane = f.plane; points = u.0 }) refl k.1 a)
 
-  cut_wide : (c d : Cell) → cut_cell t room w c ≡ ok d → Wide d × (1 ≤ length d)
+  cut_wide : (c d : Cell) → cut_cell t room w c ≡ Ok d → Wide d × (1 ≤ length d)
   unfolding cut_cell cut_faces closed add_face
   cut_wide c d e =
       let r = then_ok (walk (cut_face t room w) (record { cell = []; cap = [] }) c) (closed t room w) d e in
@@ -62,12 +61,12 @@ module _ (t : Precision) (room : ℕ) (w : Plane) where
       )
 
   -- every face of a part has three corners or more, where every face of the cell has
-  pub part_wide : (c d : Cell) → clip t room w c ≡ ok (part d) → Wide c → Wide d
+  pub part_wide : (c d : Cell) → clip t room w c ≡ Ok (part d) → Wide c → Wide d
   part_wide c d e a =
       ⊎_elim (λ h. subst Wide (sym h.1) a) (λ h. (cut_wide c d h).0) (part_of t room w c d e)
 
   -- a part has a face
-  pub part_some : (c d : Cell) → clip t room w c ≡ ok (part d) → 1 ≤ length d
+  pub part_some : (c d : Cell) → clip t room w c ≡ Ok (part d) → 1 ≤ length d
   unfolding clip clip_by signs_of walk
   part_some [] d e = absurd (let n : ◌≡◌ {A = ℕ} 0 1 = cc in omega arith)
   part_some (f ∷ c) d e =
@@ -79,7 +78,7 @@ pub record Fit (room : ℕ) (c : Cell) : Type 0 where
   pub few : length c ≤ 128
   pub fit : corners 0 c ≤ room
 
-add_fit : (room : ℕ) (c c' : Cell) (f : Face) → add_face room c f ≡ ok c' → Fit room c'
+add_fit : (room : ℕ) (c c' : Cell) (f : Face) → add_face room c f ≡ Ok c' → Fit room c'
 unfolding add_face
 add_fit room c c' f e =
     let g = unless_ok (is_full room (length c) (corners 0 c) (length f.points)) 12 _ c' e in
@@ -90,7 +89,7 @@ none_fit : (room : ℕ) → Fit room []
 none_fit room = record { few = omega arith; fit = omega (arith, corners_none) }
 
 module _ (t : Precision) (room : ℕ) (w : Plane) where
-  by_fit : (c d : Cell) (n p : Bool) → clip_by t room w c n p ≡ ok (part d) → Fit room d
+  by_fit : (c d : Cell) (n p : Bool) → clip_by t room w c n p ≡ Ok (part d) → Fit room d
   unfolding clip_by left_cell cut_cell closed
   by_fit c d false p e = absurd (let z : ◌≡◌ {A = ℕ} 0 1 = cc in omega arith)
   by_fit c d true false e =
@@ -106,7 +105,7 @@ module _ (t : Precision) (room : ℕ) (w : Plane) where
       subst (Fit room) q (add_fit room r.0.cell g.0 (record { plane = w; points = k.0 }) k.2)
 
   -- a part has 128 faces at most, and no more corners than the room
-  pub part_fit : (c d : Cell) → clip t room w c ≡ ok (part d) → Fit room d
+  pub part_fit : (c d : Cell) → clip t room w c ≡ Ok (part d) → Fit room d
   unfolding clip
   part_fit c d e =
       let g = then_ok (signs_of t w c) (λ s. clip_by t room w c s.negative s.positive) (part d) e in
@@ -119,7 +118,7 @@ take_sets [] l i j h = refl
 take_sets (v ∷ vs) l i j h = take_sets vs (set l j v) i (suc j) (omega arith) ∙ take-set-le i l j v h
 
 -- whatever a cut answers, what stands before the places is as it was
-pub clip_before : (o : Outcome Part) (r : Clipped) (d : List Float) (at : ℕ) (n : List ℕ) (k : ℕ) (d' : List Float) (n' : List ℕ) →
+pub clip_before : (o : Outcome Part) (r : Outcome Clipped) (d : List Float) (at : ℕ) (n : List ℕ) (k : ℕ) (d' : List Float) (n' : List ℕ) →
     Clips o r d at n k d' n' → (take at d' ≡ take at d) × (take k n' ≡ take k n)
 clip_before o r d at n k d' n' c = (
   ap (take at) c.floats ∙ take_sets (cell_floats c.cell) d at at (omega arith),

@@ -1,6 +1,6 @@
 -- `clip`: 7; then 7, 8, 9, 12, 6, 12 face by face; then 6, 10, 12 of the cap. Definitions only.
-use Rattle.std.specs.Prelude.{ℕ, Bool, true, false, List, [], length, ltb}
-use Rattle.refusal.specs.Outcome.{Outcome, ok, then, walk}
+use Rattle.std.specs.Prelude.{ℕ, Bool, true, false, List, [], length, ltb, Ok}
+use Rattle.refusal.specs.Outcome.{Outcome, then, walk}
 use Rattle.space.specs.declared.Point3.{Point3}
 use Rattle.space.specs.declared.Plane.{Plane}
 use Rattle.space.specs.declared.Precision.{Precision}
@@ -30,7 +30,7 @@ unfoldable pub joined : Precision → ℕ → Cell → Plane → Ring → Outcom
 joined t room c w r =
     then (unique t r.face) (λ l.
     then (keep_face (ltb (length l) 3) room c (record { plane = w; points = l })) (λ c'.
-    ok (record { cell = c'; cap = r.cap })))
+    Ok (record { cell = c'; cap = r.cap })))
 
 unfoldable pub cut_face : Precision → ℕ → Plane → Cutting → Face → Outcome Cutting
 cut_face t room w s f = then (cut_ring t w s.cap f.points) (joined t room s.cell f.plane)
@@ -46,11 +46,11 @@ unfoldable pub cut_cell : Precision → ℕ → Plane → Cell → Outcome Cell
 cut_cell t room w c = then (cut_faces t room w c) (closed t room w)
 
 abbrev pub as_part : Cell → Outcome Part
-as_part c = ok (part c)
+as_part c = Ok (part c)
 
 -- nothing where no corner is Negative, the cell where none is Positive, else the part below the plane
 unfoldable pub clip_by : Precision → ℕ → Plane → Cell → Bool → Bool → Outcome Part
-clip_by t room w c false positive = ok nothing
+clip_by t room w c false positive = Ok nothing
 clip_by t room w c true false = then (left_cell room c) as_part
 clip_by t room w c true true = then (cut_cell t room w c) as_part
 

@@ -2,32 +2,22 @@
 
 // The part of a convex cell below a plane.
 ghost use Rattle.std.specs.Prelude.{◌≡◌, ◌+◌, ◌*◌, ◌≤◌, length};
-ghost use Rattle.edge.specs.Meets.{seen};
 ghost use Rattle.room.specs.Rooms.{plane_size, face_at, cell_at, counts_at};
 ghost use Rattle.cell.specs.Cells.{Stored};
 ghost use Rattle.clip.specs.Cuts.{signs_of, cut_face, closed, cut_faces, cut_cell, clip_by, clip};
 ghost use Rattle.clip.specs.Clips.{Space, Few, Cutter, Closer, Gone, Given, Hulls, answered, Clips};
 
-use cell::Kept;
+pub use cell::Kept;
 use edge::Seen;
-use refusal::{Refusal, Verdict};
+use refusal::Refusal;
 use space::{Plane, Precision};
 
 // A cut under way: how many faces and corners the cell has, and how many points the cap.
 #[derive(Clone, Copy)]
 pub struct Going {
-    pub verdict: Verdict,
     pub faces: usize,
     pub corners: usize,
     pub caps: usize,
-}
-
-// Part has the numbers of its faces and corners.
-#[derive(Clone, Copy)]
-pub enum Clipped {
-    Nothing,
-    Part(usize, usize),
-    Refused(Refusal),
 }
 
 // The sides of all corners of a cell.
@@ -39,20 +29,18 @@ fn sign_cell(
     sizes: &[u64],
     j: usize,
     faces: usize,
-) -> Seen
+) -> Result<Seen, Refusal>
     requires { Given src.now from sizes.now j faces }
-    ensures { seen result ≡ signs_of t plane (cell_at src.now from (counts_at sizes.now j faces)) }
+    ensures { result ≡ signs_of t plane (cell_at src.now from (counts_at sizes.now j faces)) }
 {
     let mut s = edge::unseen();
     let mut o = from;
-    let mut i = 0;
-    while i < faces {
+    for i in 0..faces {
         let n = sizes[j + i] as usize;
-        s = ring::sign_face(t, plane, src, o + room::PLANE, n, s);
+        s = ring::sign_face(t, plane, src, o + room::PLANE, n, s)?;
         o = o + room::PLANE + 3 * n;
-        i += 1;
     }
-    s
+    Ok(s)
 }
 
 // One face more of the cell that is cut.
@@ -70,46 +58,23 @@ fn cut_face(
     counts: &mut [u64],
     k: usize,
     s: Going,
-) -> Going
+) -> Result<Going, Refusal>
     requires { (o + plane_size + 3 * n ≤ length src.now) × Space limit face.old cap.old dst.old at counts.old k × Few limit s }
     ensures { Cutter limit at k (λ x. cut_face t limit plane x (face_at src.now o n)) s result cap.old dst.old counts.old cap.new dst.new counts.new }
 {
-    let v = s.verdict;
-    let faces = s.faces;
-    let corners = s.corners;
-    let caps = s.caps;
-    let Verdict::Fine = v else {
-        return s;
-    };
-    let ring = ring::cut_ring(t, plane, src, o + room::PLANE, n, face, cap, caps);
-    let rv = ring.verdict;
-    let m = ring.corners;
-    let more = ring.caps;
-    let Verdict::Fine = rv else {
-        return Going {
-            verdict: rv,
-            faces,
-            corners,
-            caps: more,
-        };
-    };
+    let ring = ring::cut_ring(t, plane, src, o + room::PLANE, n, face, cap, s.caps)?;
     let w = room::get_plane(src, o);
-    let made = polygon::unique(face, 0, m, t);
-    let mv = made.verdict;
-    let q = made.polygon;
+    let q = polygon::unique(face, 0, ring.corners, t)?;
     let old = Kept {
-        verdict: mv,
-        faces,
-        corners,
+        faces: s.faces,
+        corners: s.corners,
     };
-    let r = cell::keep_face(limit, dst, at, counts, k, old, w, q);
-    let kv = r.verdict;
-    Going {
-        verdict: kv,
+    let r = cell::keep_face(limit, dst, at, counts, k, old, w, q)?;
+    Ok(Going {
         faces: r.faces,
         corners: r.corners,
-        caps: more,
-    }
+        caps: ring.caps,
+    })
 }
 
 // All faces of the cell.
@@ -128,25 +93,22 @@ fn cut_faces(
     at: usize,
     counts: &mut [u64],
     k: usize,
-) -> Going
+) -> Result<Going, Refusal>
     requires { Given src.now from sizes.now j faces × Space limit face.old cap.old dst.old at counts.old k }
     ensures { Gone limit dst.old at counts.old k (cut_faces t limit plane (cell_at src.now from (counts_at sizes.now j faces))) result cap.new dst.new counts.new }
 {
     let mut s = Going {
-        verdict: Verdict::Fine,
         faces: 0,
         corners: 0,
         caps: 0,
     };
     let mut o = from;
-    let mut i = 0;
-    while i < faces {
+    for i in 0..faces {
         let n = sizes[j + i] as usize;
-        s = cut_face(t, limit, plane, src, o, n, face, cap, dst, at, counts, k, s);
+        s = cut_face(t, limit, plane, src, o, n, face, cap, dst, at, counts, k, s)?;
         o = o + room::PLANE + 3 * n;
-        i += 1;
     }
-    s
+    Ok(s)
 }
 
 // The cap closes the cell.
@@ -163,40 +125,23 @@ fn close(
     at: usize,
     counts: &mut [u64],
     k: usize,
-) -> Kept
+) -> Result<Kept, Refusal>
     requires { (3072 ≤ length cap.old) × Hulls flat.old order.old chain.old × (at + 1664 + 3 * limit ≤ length dst.old) × (k + 128 ≤ length counts.old) × Few limit s }
     ensures { Closer at k (closed t limit plane) s result cap.old dst.old counts.old dst.new counts.new }
 {
-    let v = s.verdict;
-    let faces = s.faces;
-    let corners = s.corners;
-    let caps = s.caps;
-    let Verdict::Fine = v else {
-        return Kept {
-            verdict: v,
-            faces,
-            corners,
-        };
-    };
-    let made = hull::hull(cap, caps, plane, t, flat, order, chain);
-    let mv = made.verdict;
-    let q = made.polygon;
+    let q = hull::hull(cap, s.caps, plane, t, flat, order, chain)?;
     let old = Kept {
-        verdict: mv,
-        faces,
-        corners,
+        faces: s.faces,
+        corners: s.corners,
     };
     cell::add_face(limit, dst, at, counts, k, old, plane, q)
 }
 
-fn answer(r: Kept) -> Clipped
-    ensures { result ≡ answered r.verdict r.faces r.corners }
+#[tactic(auto, unfolding(crate::specs::Clips::answered))]
+fn answer(r: Result<Kept, Refusal>) -> Result<Option<Kept>, Refusal>
+    ensures { result ≡ answered r }
 {
-    let v = r.verdict;
-    match v {
-        Verdict::Fine => Clipped::Part(r.faces, r.corners),
-        Verdict::Refused(e) => Clipped::Refused(e),
-    }
+    Ok(Some(r?))
 }
 
 fn cut_cell(
@@ -217,13 +162,13 @@ fn cut_cell(
     flat: &mut [f64],
     order: &mut [u64],
     chain: &mut [u64],
-) -> Kept
+) -> Result<Kept, Refusal>
     requires { Given src.now from sizes.now j faces × Space limit face.old cap.old dst.old at counts.old k × Hulls flat.old order.old chain.old }
     ensures { Stored dst.old at counts.old k (cut_cell t limit plane (cell_at src.now from (counts_at sizes.now j faces))) result dst.new counts.new }
 {
     let s = cut_faces(
         t, limit, plane, src, from, sizes, j, faces, face, cap, dst, at, counts, k,
-    );
+    )?;
     close(
         t, limit, plane, s, cap, flat, order, chain, dst, at, counts, k,
     )
@@ -250,7 +195,7 @@ fn clip_by(
     flat: &mut [f64],
     order: &mut [u64],
     chain: &mut [u64],
-) -> Clipped
+) -> Result<Option<Kept>, Refusal>
     requires { Given src.now from sizes.now j faces × Space limit face.old cap.old dst.old at counts.old k × Hulls flat.old order.old chain.old }
     ensures { Clips (clip_by t limit plane (cell_at src.now from (counts_at sizes.now j faces)) negative positive) result dst.old at counts.old k dst.new counts.new }
 {
@@ -265,7 +210,7 @@ fn clip_by(
         let r = cell::left_cell(limit, src, from, sizes, j, faces, dst, at, counts, k);
         return answer(r);
     }
-    Clipped::Nothing
+    Ok(None)
 }
 
 // The cell that stands in `src` from `from` on, its faces' numbers of corners in `sizes` from `j` on; its part below the plane
@@ -289,19 +234,13 @@ pub fn clip(
     flat: &mut [f64],
     order: &mut [u64],
     chain: &mut [u64],
-) -> Clipped
+) -> Result<Option<Kept>, Refusal>
     requires { Given src.now from sizes.now j faces × Space limit face.old cap.old dst.old at counts.old k × Hulls flat.old order.old chain.old }
     ensures { Clips (clip t limit plane (cell_at src.now from (counts_at sizes.now j faces))) result dst.old at counts.old k dst.new counts.new }
 {
-    let s = sign_cell(t, plane, src, from, sizes, j, faces);
-    let v = s.verdict;
-    let negative = s.negative;
-    let positive = s.positive;
-    match v {
-        Verdict::Refused(r) => Clipped::Refused(r),
-        Verdict::Fine => clip_by(
-            negative, positive, t, limit, plane, src, from, sizes, j, faces, dst, at, counts, k,
-            face, cap, flat, order, chain,
-        ),
-    }
+    let s = sign_cell(t, plane, src, from, sizes, j, faces)?;
+    clip_by(
+        s.negative, s.positive, t, limit, plane, src, from, sizes, j, faces, dst, at, counts, k,
+        face, cap, flat, order, chain,
+    )
 }

@@ -1,21 +1,18 @@
 -- Laws of `conform`, in the words of the code.
 use Rattle.std.proofs.Math.Path.{◌≡◌, refl, sym, ap, subst}
 use Rattle.std.proofs.Common.{◌∙◌, arith, mod-lt, add-one, length-set, length-drop, get_or-drop}
-use Rattle.std.specs.Prelude.{List, [], ◌∷◌, ◌++◌, ℕ, suc, ◌+◌, ◌*◌, ◌%◌, ◌≤◌, ◌<◌, drop, set, Float}
+use Rattle.std.specs.Prelude.{List, [], ◌∷◌, ◌++◌, ℕ, suc, ◌+◌, ◌*◌, ◌%◌, ◌≤◌, ◌<◌, drop, set, Float, Ok, Err}
 use Rattle.std.proofs.Math.ListN.{length, take, get_or, length-append}
 use Rattle.std.proofs.Math.Seq.{sets, length-sets}
 use Rattle.refusal.specs.declared.Refusal.{Refusal}
-use Rattle.refusal.specs.Outcome.{Outcome, ok, refused, walk}
+use Rattle.refusal.specs.Outcome.{Outcome, walk}
 use Rattle.refusal.specs.Laws.{stop, go, walk_go, walk_stop, walk_end}
 use Rattle.lists.specs.Walks.{cyclic}
 use Rattle.lists.specs.Laws.{next, done, next_edge, edges_done}
-use Rattle.space.specs.declared.Point3.{Point3}
 use Rattle.space.specs.declared.Precision.{Precision}
 use Rattle.polygon.specs.Memory.{points_at}
 use Rattle.room.specs.Rooms.{counts_at}
 use Rattle.room.specs.Laws.{sets_append}
-use Rattle.indexed.specs.declared.Counted.{Counted}
-use Rattle.indexed.specs.declared.Counted.TheVariants as C
 use Rattle.inside.specs.Edges.{inside_edge}
 use Rattle.inside.specs.Slices.{Same, Roomy, Edged}
 use Rattle.conform.specs.Conform.{conform_edge, conform}
@@ -49,42 +46,42 @@ module _ {o₀ : List ℕ} {at : ℕ} {l : List ℕ} {m : ℕ} {o : List ℕ} {i
 -- ---- one edge
 
 module _ (i n at : ℕ) (a₀ b₀ : List Float) (k₀ o₀ : List ℕ) (a b : List Float) (k : List ℕ) where
-  pub spliced_not : (x : Outcome (List ℕ)) (r : Counted) (y : Refusal) → Edged x n a₀ b₀ k₀ a b k r → r ≡ C.Refused y → Spliced x i n at a₀ b₀ k₀ o₀ a b k o₀ r
+  pub spliced_not : (x : Outcome (List ℕ)) (r r' : Outcome ℕ) (y : Refusal) → Edged x n a₀ b₀ k₀ a b k r → r ≡ Err y → r' ≡ Err y → Spliced x i n at a₀ b₀ k₀ o₀ a b k o₀ r'
   unfolding Edged Spliced
-  spliced_not (ok l) r y h g = absurd (let u = h.0 in let z : ◌≡◌ {A = ℕ} 0 1 = cc in omega arith)
-  spliced_not (refused x) r y h g = (h.0, refl, h.1)
+  spliced_not (Ok l) r r' y h g f = absurd (let u = h.0 in let z : ◌≡◌ {A = ℕ} 0 1 = cc in omega arith)
+  spliced_not (Err x) r r' y h g f = (let u = h.0 in let v : y ≡ x = cc in f ∙ ap Err v, refl, h.1)
 
-  pub spliced_made : (x : Outcome (List ℕ)) (r : Counted) (m : ℕ) (o₁ o₂ : List ℕ) → Edged x n a₀ b₀ k₀ a b k r → r ≡ C.Made m → o₁ ≡ set o₀ at i → o₂ ≡ sets o₁ (at + 1) (take m k) →
-      Spliced x i n at a₀ b₀ k₀ o₀ a b k o₂ (C.Made (m + 1))
+  pub spliced_made : (x : Outcome (List ℕ)) (r : Outcome ℕ) (m : ℕ) (o₁ o₂ : List ℕ) → Edged x n a₀ b₀ k₀ a b k r → r ≡ Ok m → o₁ ≡ set o₀ at i → o₂ ≡ sets o₁ (at + 1) (take m k) →
+      Spliced x i n at a₀ b₀ k₀ o₀ a b k o₂ (Ok (m + 1))
   unfolding Edged Spliced
-  spliced_made (ok l) r m o₁ o₂ h g e f =
+  spliced_made (Ok l) r m o₁ o₂ h g e f =
       let c : m ≡ length l = (let u = h.0 in cc) in
       let p : take m k ≡ l = ap (λ z. take z k) c ∙ h.2 in
-      (ap (λ z. C.Made (z + 1)) c, h.1, f ∙ ap (λ z. sets z (at + 1) (take m k)) e ∙ ap (sets (set o₀ at i) (at + 1)) p ∙ ap (λ z. sets (set o₀ at i) z l) (add-one at), h.3)
-  spliced_made (refused x) r m o₁ o₂ h g e f = absurd (let u = h.0 in let z : ◌≡◌ {A = ℕ} 0 1 = cc in omega arith)
+      (ap (λ z. Ok (z + 1)) c, h.1, f ∙ ap (λ z. sets z (at + 1) (take m k)) e ∙ ap (sets (set o₀ at i) (at + 1)) p ∙ ap (λ z. sets (set o₀ at i) z l) (add-one at), h.3)
+  spliced_made (Err x) r m o₁ o₂ h g e f = absurd (let u = h.0 in let z : ◌≡◌ {A = ℕ} 0 1 = cc in omega arith)
 
-pub edged_fits : (n : ℕ) (a₀ b₀ : List Float) (k₀ : List ℕ) (a b : List Float) (k : List ℕ) (x : Outcome (List ℕ)) (r : Counted) (m : ℕ) → n ≤ length k₀ → Edged x n a₀ b₀ k₀ a b k r → r ≡ C.Made m → (m ≤ length k) × (m ≤ n)
+pub edged_fits : (n : ℕ) (a₀ b₀ : List Float) (k₀ : List ℕ) (a b : List Float) (k : List ℕ) (x : Outcome (List ℕ)) (r : Outcome ℕ) (m : ℕ) → n ≤ length k₀ → Edged x n a₀ b₀ k₀ a b k r → r ≡ Ok m → (m ≤ length k) × (m ≤ n)
 unfolding Edged
-edged_fits n a₀ b₀ k₀ a b k (ok l) r m h e g =
+edged_fits n a₀ b₀ k₀ a b k (Ok l) r m h e g =
     let c : m ≡ length l = (let u = e.0 in cc) in
     (omega (arith, c, e.1, e.3.places), omega (arith, c, e.1))
-edged_fits n a₀ b₀ k₀ a b k (refused x) r m h e g = absurd (let u = e.0 in let z : ◌≡◌ {A = ℕ} 0 1 = cc in omega arith)
+edged_fits n a₀ b₀ k₀ a b k (Err x) r m h e g = absurd (let u = e.0 in let z : ◌≡◌ {A = ℕ} 0 1 = cc in omega arith)
 
 -- ---- the edges of a facet
 
-spliced_of : (x : Outcome (List ℕ)) (i n at : ℕ) (a₀ b₀ : List Float) (k₀ o₀ : List ℕ) (a b : List Float) (k o : List ℕ) (r : Counted) (m : ℕ) → Spliced x i n at a₀ b₀ k₀ o₀ a b k o r → r ≡ C.Made m →
-    (l : List ℕ) × (x ≡ ok l) × (m ≡ length l + 1) × (m ≤ n + 1) × (o ≡ sets o₀ at (i ∷ l)) × Same a₀ b₀ k₀ a b k
+spliced_of : (x : Outcome (List ℕ)) (i n at : ℕ) (a₀ b₀ : List Float) (k₀ o₀ : List ℕ) (a b : List Float) (k o : List ℕ) (r : Outcome ℕ) (m : ℕ) → Spliced x i n at a₀ b₀ k₀ o₀ a b k o r → r ≡ Ok m →
+    (l : List ℕ) × (x ≡ Ok l) × (m ≡ length l + 1) × (m ≤ n + 1) × (o ≡ sets o₀ at (i ∷ l)) × Same a₀ b₀ k₀ a b k
 unfolding Spliced
-spliced_of (ok l) i n at a₀ b₀ k₀ o₀ a b k o r m h g =
+spliced_of (Ok l) i n at a₀ b₀ k₀ o₀ a b k o r m h g =
     let c : m ≡ length l + 1 = (let u = h.0 in cc) in
     (l, refl, c, omega (arith, h.1), h.2, h.3)
-spliced_of (refused x) i n at a₀ b₀ k₀ o₀ a b k o r m h g = absurd (let u = h.0 in let z : ◌≡◌ {A = ℕ} 0 1 = cc in omega arith)
+spliced_of (Err x) i n at a₀ b₀ k₀ o₀ a b k o r m h g = absurd (let u = h.0 in let z : ◌≡◌ {A = ℕ} 0 1 = cc in omega arith)
 
-spliced_none : (x : Outcome (List ℕ)) (i n at : ℕ) (a₀ b₀ : List Float) (k₀ o₀ : List ℕ) (a b : List Float) (k o : List ℕ) (r : Counted) (y : Refusal) → Spliced x i n at a₀ b₀ k₀ o₀ a b k o r → r ≡ C.Refused y →
-    (x ≡ refused y) × (length o ≡ length o₀) × Same a₀ b₀ k₀ a b k
+spliced_none : (x : Outcome (List ℕ)) (i n at : ℕ) (a₀ b₀ : List Float) (k₀ o₀ : List ℕ) (a b : List Float) (k o : List ℕ) (r : Outcome ℕ) (y : Refusal) → Spliced x i n at a₀ b₀ k₀ o₀ a b k o r → r ≡ Err y →
+    (x ≡ Err y) × (length o ≡ length o₀) × Same a₀ b₀ k₀ a b k
 unfolding Spliced
-spliced_none (ok l) i n at a₀ b₀ k₀ o₀ a b k o r y h g = absurd (let u = h.0 in let z : ◌≡◌ {A = ℕ} 0 1 = cc in omega arith)
-spliced_none (refused x) i n at a₀ b₀ k₀ o₀ a b k o r y h g = ((let u = h.0 in let w : x ≡ y = cc in ap refused w), h.1, h.2)
+spliced_none (Ok l) i n at a₀ b₀ k₀ o₀ a b k o r y h g = absurd (let u = h.0 in let z : ◌≡◌ {A = ℕ} 0 1 = cc in omega arith)
+spliced_none (Err x) i n at a₀ b₀ k₀ o₀ a b k o r y h g = ((let u = h.0 in let w : x ≡ y = cc in ap Err w), h.1, h.2)
 
 pub same_more : {a₀ b₀ : List Float} {k₀ : List ℕ} {a b : List Float} {k : List ℕ} {a' b' : List Float} {k' : List ℕ} → Same a₀ b₀ k₀ a b k → Same a b k a' b' k' → Same a₀ b₀ k₀ a' b' k'
 same_more s u = record { lows = u.lows ∙ s.lows; highs = u.highs ∙ s.highs; places = u.places ∙ s.places }
@@ -144,7 +141,7 @@ module _ {t : Precision} {s : List Float} {n : ℕ} {l : List ℕ} {first c at :
   abbrev found : Outcome (List ℕ)
   found = inside_edge t (points_at s 0 n) (get_or l (first + i) 0) (get_or l (first + (i + 1) % c) 0)
 
-  pub conforming_step : (a' b' : List Float) (k' o' : List ℕ) (r : Counted) (m : ℕ) → i < c → r ≡ C.Made m →
+  pub conforming_step : (a' b' : List Float) (k' o' : List ℕ) (r : Outcome ℕ) (m : ℕ) → i < c → r ≡ Ok m →
       Spliced found (get_or l (first + i) 0) n (at + q) a b k o a' b' k' o' r → Conforming t s n l first c at a₀ b₀ k₀ o₀ a' b' k' o' (q + m) (i + 1)
   unfolding conform_edge
   conforming_step a' b' k' o' r m h g w =
@@ -152,7 +149,7 @@ module _ {t : Precision} {s : List Float} {n : ℕ} {l : List ℕ} {first c at :
       let z = spliced_of found x n (at + q) a b k o a' b' k' o' r m w g in
       let v = x ∷ z.0 in
       let f = I.state ++ (x ∷ z.0) in
-      let e : conform_edge t (points_at s 0 n) I.state (record { from = get_or l (first + i) 0; to = get_or l (first + (i + 1) % c) 0 }) ≡ ok (I.state ++ (get_or l (first + i) 0 ∷ z.0)) = go found _ z.0 z.1 in
+      let e : conform_edge t (points_at s 0 n) I.state (record { from = get_or l (first + i) 0; to = get_or l (first + (i + 1) % c) 0 }) ≡ Ok (I.state ++ (get_or l (first + i) 0 ∷ z.0)) = go found _ z.0 z.1 in
       record {
         state = f;
         upto = omega arith;
@@ -163,26 +160,26 @@ module _ {t : Precision} {s : List Float} {n : ℕ} {l : List ℕ} {first c at :
         rest = sym (walk_go (conform_edge t (points_at s 0 n)) I.state _ _ f e) ∙ turn h;
       }
 
-  pub conforming_count : (a' b' : List Float) (k' o' : List ℕ) (r : Counted) (m : ℕ) → i < c → r ≡ C.Made m → Spliced found (get_or l (first + i) 0) n (at + q) a b k o a' b' k' o' r → q + m ≤ 1000000
+  pub conforming_count : (a' b' : List Float) (k' o' : List ℕ) (r : Outcome ℕ) (m : ℕ) → i < c → r ≡ Ok m → Spliced found (get_or l (first + i) 0) n (at + q) a b k o a' b' k' o' r → q + m ≤ 1000000
   conforming_count a' b' k' o' r m h g w = (let z = spliced_of found (get_or l (first + i) 0) n (at + q) a b k o a' b' k' o' r m w g in omega (arith, conforming_low h, z.3, points))
 
-  pub conforming_stop : (a' b' : List Float) (k' o' : List ℕ) (r : Counted) (y : Refusal) → i < c → r ≡ C.Refused y →
-      Spliced found (get_or l (first + i) 0) n (at + q) a b k o a' b' k' o' r → Conformed (conform t (points_at s 0 n) (counts_at l first c)) at a₀ b₀ k₀ o₀ a' b' k' o' r
+  pub conforming_stop : (a' b' : List Float) (k' o' : List ℕ) (r r' : Outcome ℕ) (y : Refusal) → i < c → r ≡ Err y → r' ≡ Err y →
+      Spliced found (get_or l (first + i) 0) n (at + q) a b k o a' b' k' o' r → Conformed (conform t (points_at s 0 n) (counts_at l first c)) at a₀ b₀ k₀ o₀ a' b' k' o' r'
   unfolding conform_edge Conformed
-  conforming_stop a' b' k' o' r y h g w =
+  conforming_stop a' b' k' o' r r' y h g g' w =
       let z = spliced_none found (get_or l (first + i) 0) n (at + q) a b k o a' b' k' o' r y w g in
-      let e : conform_edge t (points_at s 0 n) I.state (record { from = get_or l (first + i) 0; to = get_or l (first + (i + 1) % c) 0 }) ≡ refused y = stop found _ y z.0 in
-      let u : conform t (points_at s 0 n) (counts_at l first c) ≡ refused y = sym (turn h) ∙ walk_stop (conform_edge t (points_at s 0 n)) I.state _ _ y e in
-      subst (λ x. Conformed x at a₀ b₀ k₀ o₀ a' b' k' o' r) (sym u) (g, z.1 ∙ conforming_out, same_more I.same z.2)
+      let e : conform_edge t (points_at s 0 n) I.state (record { from = get_or l (first + i) 0; to = get_or l (first + (i + 1) % c) 0 }) ≡ Err y = stop found _ y z.0 in
+      let u : conform t (points_at s 0 n) (counts_at l first c) ≡ Err y = sym (turn h) ∙ walk_stop (conform_edge t (points_at s 0 n)) I.state _ _ y e in
+      subst (λ x. Conformed x at a₀ b₀ k₀ o₀ a' b' k' o' r') (sym u) (g', z.1 ∙ conforming_out, same_more I.same z.2)
 
-  pub conforming_end : (r : Counted) → c ≤ i → r ≡ C.Made q → Conformed (conform t (points_at s 0 n) (counts_at l first c)) at a₀ b₀ k₀ o₀ a b k o r
+  pub conforming_end : (r : Outcome ℕ) → c ≤ i → r ≡ Ok q → Conformed (conform t (points_at s 0 n) (counts_at l first c)) at a₀ b₀ k₀ o₀ a b k o r
   unfolding Conformed
   conforming_end r h g =
-      let u : conform t (points_at s 0 n) (counts_at l first c) ≡ ok I.state = sym I.rest ∙ ap (walk (conform_edge t (points_at s 0 n)) I.state) (edges_done (drop first l) c i h) ∙ walk_end (conform_edge t (points_at s 0 n)) I.state in
-      subst (λ x. Conformed x at a₀ b₀ k₀ o₀ a b k o r) (sym u) (g ∙ ap C.Made I.count, omega (arith, I.count, I.few, I.upto, among.small), I.out, I.same)
+      let u : conform t (points_at s 0 n) (counts_at l first c) ≡ Ok I.state = sym I.rest ∙ ap (walk (conform_edge t (points_at s 0 n)) I.state) (edges_done (drop first l) c i h) ∙ walk_end (conform_edge t (points_at s 0 n)) I.state in
+      subst (λ x. Conformed x at a₀ b₀ k₀ o₀ a b k o r) (sym u) (g ∙ ap Ok I.count, omega (arith, I.count, I.few, I.upto, among.small), I.out, I.same)
 
-pub conformed_same : (x : Outcome (List ℕ)) (at : ℕ) (a₀ b₀ : List Float) (k₀ o₀ : List ℕ) (a b : List Float) (k o : List ℕ) (r : Counted) → Conformed x at a₀ b₀ k₀ o₀ a b k o r →
+pub conformed_same : (x : Outcome (List ℕ)) (at : ℕ) (a₀ b₀ : List Float) (k₀ o₀ : List ℕ) (a b : List Float) (k o : List ℕ) (r : Outcome ℕ) → Conformed x at a₀ b₀ k₀ o₀ a b k o r →
     Same a₀ b₀ k₀ a b k × (length o ≡ length o₀)
 unfolding Conformed
-conformed_same (ok f) at a₀ b₀ k₀ o₀ a b k o r h = (h.3, ap length h.2 ∙ length-sets o₀ at f)
-conformed_same (refused y) at a₀ b₀ k₀ o₀ a b k o r h = (h.2, h.1)
+conformed_same (Ok f) at a₀ b₀ k₀ o₀ a b k o r h = (h.3, ap length h.2 ∙ length-sets o₀ at f)
+conformed_same (Err y) at a₀ b₀ k₀ o₀ a b k o r h = (h.2, h.1)

@@ -10,7 +10,7 @@ ghost use Rattle.inside.specs.Slices.{Roomy};
 ghost use Rattle.conform.specs.Conform.{conform};
 ghost use Rattle.conform.specs.Cycles.{Among, Spliced, Conformed};
 
-use indexed::Counted;
+use refusal::Refusal;
 use space::Precision;
 
 // x goes to place i, where the slice has one.
@@ -28,11 +28,8 @@ fn append(out: &mut [u64], at: usize, places: &[u64], m: usize)
     requires { (m ≤ length places.now) × (at + m ≤ 9223372036854775808) }
     ensures { out.new ≡ sets out.old at (take m places.now) }
 {
-    let mut i = 0;
-    while i < m {
-        let x = places[i];
-        store(out, at + i, x);
-        i += 1;
+    for i in 0..m {
+        store(out, at + i, places[i]);
     }
 }
 
@@ -48,17 +45,14 @@ fn conform_edge(
     places: &mut [u64],
     out: &mut [u64],
     at: usize,
-) -> Counted
+) -> Result<usize, Refusal>
     requires { (3 * n ≤ length points.now) × Roomy n lows.old highs.old places.old × (i < n) × (j < n) × (n ≤ 4096) × (at ≤ 4611686018428000000) }
     ensures { Spliced (inside_edge t (points_at points.now 0 n) i j) i n at lows.old highs.old places.old out.old lows.new highs.new places.new out.new result }
 {
-    let step = inside::inside_edge(t, points, n, i, j, lows, highs, places);
-    let Counted::Made(m) = step else {
-        return step;
-    };
+    let m = inside::inside_edge(t, points, n, i, j, lows, highs, places)?;
     store(out, at, i as u64);
     append(out, at + 1, places, m);
-    Counted::Made(m + 1)
+    Ok(m + 1)
 }
 
 // The cycle of c vertices, each one of n points, from `first` on, with the vertices inside its edges, goes to `out` from `at` on, as
@@ -75,21 +69,16 @@ pub fn conform(
     places: &mut [u64],
     out: &mut [u64],
     at: usize,
-) -> Counted
+) -> Result<usize, Refusal>
     requires { (3 * n ≤ length points.now) × Roomy n lows.old highs.old places.old × Among n cycle.now first c × (n ≤ 4096) × (at ≤ 4611686018427387904) }
     ensures { Conformed (conform t (points_at points.now 0 n) (counts_at cycle.now first c)) at lows.old highs.old places.old out.old lows.new highs.new places.new out.new result }
 {
     let mut q = 0;
-    let mut i = 0;
-    while i < c {
+    for i in 0..c {
         let a = cycle[first + i] as usize;
         let b = cycle[first + (i + 1) % c] as usize;
-        let step = conform_edge(t, points, n, a, b, lows, highs, places, out, at + q);
-        let Counted::Made(m) = step else {
-            return step;
-        };
+        let m = conform_edge(t, points, n, a, b, lows, highs, places, out, at + q)?;
         q += m;
-        i += 1;
     }
-    Counted::Made(q)
+    Ok(q)
 }

@@ -1,4 +1,5 @@
 -- What each call tells, in the words of the code.
+use Rattle.std.specs.Prelude.{Ok, Err, Some, None}
 use mathlib.Core.Path.{◌≡◌, refl, sym, ap, ◌∙◌, subst}
 use mathlib.Core.Bool.{Bool, true, false, not, ◌&&◌}
 use mathlib.Core.List.{List, []}
@@ -9,25 +10,22 @@ use lib.Seq.{sets}
 use lib.Dec.{leb}
 use lib.Ieee.{Float}
 use borrow.Author.Tests.{leb-true}
-use Rattle.refusal.specs.Outcome.{Outcome, ok, refused, unless, number_of}
+use Rattle.refusal.specs.Outcome.{Outcome, unless, number_of}
 use Rattle.refusal.specs.Tests.{and_true}
 use Rattle.space.specs.declared.Point3.{Point3}
 use Rattle.space.specs.declared.Plane.{Plane}
 use Rattle.space.specs.declared.Precision.{Precision}
 use Rattle.space.specs.Shapes.{Cell, Part, corners}
-use Rattle.polygon.specs.declared.Made.{Made}
-use Rattle.polygon.specs.Polygons.{corners_of, polygon, made}
+use Rattle.polygon.specs.declared.Polygon.{Polygon}
+use Rattle.polygon.specs.Polygons.{made}
 use Rattle.polygon.specs.Memory.{floats_of, points_at}
 use Rattle.polygon.specs.Unique.{unique}
 use Rattle.polygon.specs.Laws.{corners_polygon}
 use Rattle.room.specs.Rooms.{cell_floats, cell_counts}
 use Rattle.hull.specs.Hull.{cap_of}
-use Rattle.clip.specs.declared.Clipped.{Clipped}
-use Rattle.clip.specs.declared.Clipped.TheVariants as C
 use Rattle.clip.specs.Cuts.{clip}
-use Rattle.clip.specs.Clips.{Space, Given, Hulls, told, number_of_clipped, Sized, Clips}
-use Rattle.lent.specs.Lent.{number_by, where_fine}
-use Rattle.cut_leaves.specs.Lending.{corners_told, count_told, Told, unique_fits, unique_lent, hull_fits, hull_lent, cell_fits, work_fits, place_fits, part_told, clipped_told, behind, clip_fits, Cut}
+use Rattle.clip.specs.Clips.{Clipped, Space, Given, Hulls, told, number_of_clipped, Sized, Clips}
+use Rattle.cut_leaves.specs.Lending.{corners_told, count_told, corners_put, count_put, Told, unique_fits, unique_lent, hull_fits, hull_lent, cell_fits, work_fits, place_fits, part_told, clipped_told, behind, clip_fits, Cut}
 use Rattle.cut_leaves.proofs.Guards.{cell_lent}
 
 -- ---- polygons
@@ -36,19 +34,15 @@ told_short : (o : Outcome (List Point3)) (d : List Float) (n : List ℕ) → Tol
 unfolding number_of corners_told count_told
 told_short o d n = record { number = refl; corners = refl; count = refl }
 
-told_made : (o : Outcome (List Point3)) (m : Made) (r : ℕ) (d : List Float) (n : List ℕ) (d' : List Float) (n' : List ℕ) → m ≡ made o → r ≡ number_by m.verdict →
-    d' ≡ where_fine m.verdict (sets d 0 (floats_of (corners_of m.polygon))) d → n' ≡ where_fine m.verdict (set n 0 m.polygon.n) n → Told o r d n d' n'
-unfolding made number_by where_fine number_of corners_told count_told
-told_made (ok l) m r d n d' n' e a b c = record {
-  number = a ∙ ap (λ x. number_by x.verdict) e;
-  corners = b ∙ ap (λ x. where_fine x.verdict (sets d 0 (floats_of (corners_of x.polygon))) d) e ∙ ap (λ x. sets d 0 (floats_of x)) (corners_polygon l);
-  count = c ∙ ap (λ x. where_fine x.verdict (set n 0 x.polygon.n) n) e;
+told_made : (o : Outcome (List Point3)) (m : Outcome Polygon) (r : ℕ) (d : List Float) (n : List ℕ) (d' : List Float) (n' : List ℕ) → m ≡ made o → r ≡ number_of m →
+    d' ≡ corners_put d m → n' ≡ count_put n m → Told o r d n d' n'
+unfolding made number_of corners_told count_told corners_put count_put
+told_made (Ok l) m r d n d' n' e a b c = record {
+  number = a ∙ ap number_of e;
+  corners = b ∙ ap (corners_put d) e ∙ ap (λ x. sets d 0 (floats_of x)) (corners_polygon l);
+  count = c ∙ ap (count_put n) e;
 }
-told_made (refused f) m r d n d' n' e a b c = record {
-  number = a ∙ ap (λ x. number_by x.verdict) e;
-  corners = b ∙ ap (λ x. where_fine x.verdict (sets d 0 (floats_of (corners_of x.polygon))) d) e;
-  count = c ∙ ap (λ x. where_fine x.verdict (set n 0 x.polygon.n) n) e;
-}
+told_made (Err f) m r d n d' n' e a b c = record { number = a ∙ ap number_of e; corners = b ∙ ap (corners_put d) e; count = c ∙ ap (count_put n) e }
 
 module _ (s d n : ℕ) (f : Bool) (fits : f ≡ unique_fits s d n) where
   pub unique_points : f ≡ true → s / 3 ≤ 128
@@ -66,8 +60,8 @@ module _ (t : Precision) (s d : List Float) (n : List ℕ) (f : Bool) (fits : f 
   unfolding unique_lent
   unique_short e = subst (λ b. Told (unless (not b) 64 (unique t (points_at s 0 (length s / 3)))) 64 d n d n) (sym e ∙ fits) (told_short (unique t (points_at s 0 (length s / 3))) d n)
 
-  pub unique_done : (m : Made) (r : ℕ) (d' : List Float) (n' : List ℕ) → f ≡ true → m ≡ made (unique t (points_at s 0 (length s / 3))) →
-      r ≡ number_by m.verdict → d' ≡ where_fine m.verdict (sets d 0 (floats_of (corners_of m.polygon))) d → n' ≡ where_fine m.verdict (set n 0 m.polygon.n) n →
+  pub unique_done : (m : Outcome Polygon) (r : ℕ) (d' : List Float) (n' : List ℕ) → f ≡ true → m ≡ made (unique t (points_at s 0 (length s / 3))) →
+      r ≡ number_of m → d' ≡ corners_put d m → n' ≡ count_put n m →
       Told (unique_lent t s (length d) (length n)) r d n d' n'
   unfolding unique_lent
   unique_done m r d' n' e h a b c =
@@ -103,8 +97,8 @@ module _ (t : Precision) (w : Plane) (cap : List Float) (points flat order chain
   unfolding hull_lent
   hull_short e = subst (λ b. Told (unless (not b) 64 (cap_of t w (points_at cap 0 points))) 64 d n d n) (sym e ∙ fits) (told_short (cap_of t w (points_at cap 0 points)) d n)
 
-  pub hull_done : (v : Plane) (m : Made) (r : ℕ) (d' : List Float) (n' : List ℕ) → f ≡ true → v ≡ w → m ≡ made (cap_of t v (points_at cap 0 points)) →
-      r ≡ number_by m.verdict → d' ≡ where_fine m.verdict (sets d 0 (floats_of (corners_of m.polygon))) d → n' ≡ where_fine m.verdict (set n 0 m.polygon.n) n →
+  pub hull_done : (v : Plane) (m : Outcome Polygon) (r : ℕ) (d' : List Float) (n' : List ℕ) → f ≡ true → v ≡ w → m ≡ made (cap_of t v (points_at cap 0 points)) →
+      r ≡ number_of m → d' ≡ corners_put d m → n' ≡ count_put n m →
       Told (hull_lent t w cap points flat order chain (length d) (length n)) r d n d' n'
   unfolding hull_lent
   hull_done v m r d' n' e g h a b c =
@@ -118,9 +112,9 @@ module _ (o : Outcome Part) (d : List Float) (at : ℕ) (n : List ℕ) (k : ℕ)
   unfolding behind number_of part_told cell_floats cell_counts
   cut_short = record { cell = []; is = refl; number = refl; floats = refl; counts = refl; tells = refl }
 
-  cut_done : (c : Clipped) (r : ℕ) (d' : List Float) (n' s' : List ℕ) → Clips o c d at n k d' n' → r ≡ number_of_clipped c → s' ≡ clipped_told s c → Cut true o r d at n k s d' n' s'
+  cut_done : (c : Outcome Clipped) (r : ℕ) (d' : List Float) (n' s' : List ℕ) → Clips o c d at n k d' n' → r ≡ number_of_clipped c → s' ≡ clipped_told s c → Cut true o r d at n k s d' n' s'
   unfolding told number_of_clipped Sized clipped_told behind number_of part_told
-  cut_done C.Nothing r d' n' s' w a b = record {
+  cut_done (Ok None) r d' n' s' w a b = record {
     cell = w.cell;
     is = subst (λ x. behind true x w.cell) w.is w.sized;
     number = a ∙ ap number_of w.is;
@@ -128,15 +122,15 @@ module _ (o : Outcome Part) (d : List Float) (at : ℕ) (n : List ℕ) (k : ℕ)
     counts = w.counts;
     tells = b ∙ ap (part_told s) w.is;
   }
-  cut_done (C.Part faces held) r d' n' s' w a b = record {
+  cut_done (Ok (Some v)) r d' n' s' w a b = record {
     cell = w.cell;
     is = subst (λ x. behind true x w.cell) w.is refl;
     number = a ∙ ap number_of w.is;
     floats = w.floats;
     counts = w.counts;
-    tells = b ∙ ap (λ x. set (set s 0 x) 1 held) w.sized.0 ∙ ap (λ x. set (set s 0 (length w.cell)) 1 x) w.sized.1 ∙ ap (part_told s) w.is;
+    tells = b ∙ ap (λ x. set (set s 0 x) 1 v.corners) w.sized.0 ∙ ap (λ x. set (set s 0 (length w.cell)) 1 x) w.sized.1 ∙ ap (part_told s) w.is;
   }
-  cut_done (C.Refused e) r d' n' s' w a b = record {
+  cut_done (Err e) r d' n' s' w a b = record {
     cell = w.cell;
     is = subst (λ x. behind true x w.cell) w.is tt;
     number = a ∙ ap number_of w.is;
@@ -167,7 +161,7 @@ module _ (limit : ℕ) (src : List Float) (from : ℕ) (ns : List ℕ) (j faces 
   pub clip_short : (o : Outcome Part) → (cf && (wf && pf)) ≡ false → Cut fits o 64 d at n k s d n s
   clip_short o e = subst (λ b. Cut b o 64 d at n k s d n s) (sym e ∙ fits_is) (cut_short o d at n k s)
 
-  pub clip_done : (t : Precision) (w v : Plane) (l : Cell) (c : Clipped) (r : ℕ) (d' : List Float) (n' s' : List ℕ) → (cf && (wf && pf)) ≡ true → v ≡ w →
+  pub clip_done : (t : Precision) (w v : Plane) (l : Cell) (c : Outcome Clipped) (r : ℕ) (d' : List Float) (n' s' : List ℕ) → (cf && (wf && pf)) ≡ true → v ≡ w →
       Clips (clip t limit v l) c d at n k d' n' → r ≡ number_of_clipped c → s' ≡ clipped_told s c → Cut fits (clip t limit w l) r d at n k s d' n' s'
   clip_done t w v l c r d' n' s' e g h a b =
       let cut = subst (λ x. Clips (clip t limit x l) c d at n k d' n') g h in

@@ -1,27 +1,37 @@
 -- What a call from outside has to lend, and how its answer is told: 64 where a slice is too short. Definitions only.
-use Rattle.std.specs.Prelude.{ℕ, ◌+◌, ◌*◌, ◌/◌, Bool, true, false, not, ◌&&◌, ◌≡◌, List, [], ◌∷◌, length, set, leb, Float}
+use Rattle.std.specs.Prelude.{ℕ, ◌+◌, ◌*◌, ◌/◌, Bool, true, false, not, ◌&&◌, ◌≡◌, List, [], ◌∷◌, length, set, leb, Float, Ok, Err, Some, None}
 use Rattle.std.proofs.lemmas.List.Edits.{sets}
-use Rattle.refusal.specs.Outcome.{Outcome, ok, refused, unless, number_of}
+use Rattle.refusal.specs.Outcome.{Outcome, unless, number_of}
 use Rattle.space.specs.declared.Point3.{Point3}
 use Rattle.space.specs.declared.Plane.{Plane}
 use Rattle.space.specs.declared.Precision.{Precision}
 use Rattle.space.specs.Shapes.{Cell, Part, nothing, part, corners}
+use Rattle.polygon.specs.declared.Polygon.{Polygon}
+use Rattle.polygon.specs.Polygons.{corners_of}
 use Rattle.polygon.specs.Memory.{floats_of, points_at}
 use Rattle.polygon.specs.Unique.{unique}
 use Rattle.room.specs.Rooms.{cell_floats, cell_counts, counts_at}
 use Rattle.hull.specs.Hull.{cap_of}
-use Rattle.clip.specs.declared.Clipped.{Clipped}
-use Rattle.clip.specs.declared.Clipped.TheVariants as C
+use Rattle.clip.specs.Clips.{Clipped}
 
 -- ---- polygons
 
 unfoldable pub corners_told : List Float → Outcome (List Point3) → List Float
-corners_told d (ok l) = sets d 0 (floats_of l)
-corners_told d (refused r) = d
+corners_told d (Ok l) = sets d 0 (floats_of l)
+corners_told d (Err r) = d
 
 unfoldable pub count_told : List ℕ → Outcome (List Point3) → List ℕ
-count_told n (ok l) = set n 0 (length l)
-count_told n (refused r) = n
+count_told n (Ok l) = set n 0 (length l)
+count_told n (Err r) = n
+
+-- the same of the polygon that was made
+unfoldable pub corners_put : List Float → Outcome Polygon → List Float
+corners_put d (Ok p) = sets d 0 (floats_of (corners_of p))
+corners_put d (Err r) = d
+
+unfoldable pub count_put : List ℕ → Outcome Polygon → List ℕ
+count_put n (Ok p) = set n 0 p.n
+count_put n (Err r) = n
 
 -- the corners, and how many there are; at a refusal both slices stay as they were
 pub record Told (o : Outcome (List Point3)) (r : ℕ) (d : List Float) (n : List ℕ) (d' : List Float) (n' : List ℕ) : Type 0 where
@@ -68,22 +78,22 @@ place_fits limit d at n k told = leb (at + 1664 + 3 * limit) d && (leb (k + 128)
 
 -- how many faces and corners there are: none where nothing is left, and untouched at a refusal
 unfoldable pub part_told : List ℕ → Outcome Part → List ℕ
-part_told n (ok nothing) = set (set n 0 0) 1 0
-part_told n (ok (part c)) = set (set n 0 (length c)) 1 (corners 0 c)
-part_told n (refused r) = n
+part_told n (Ok nothing) = set (set n 0 0) 1 0
+part_told n (Ok (part c)) = set (set n 0 (length c)) 1 (corners 0 c)
+part_told n (Err r) = n
 
 -- the same of the code's answer
-unfoldable pub clipped_told : List ℕ → Clipped → List ℕ
-clipped_told n C.Nothing = set (set n 0 0) 1 0
-clipped_told n (C.Part faces held) = set (set n 0 faces) 1 held
-clipped_told n (C.Refused r) = n
+unfoldable pub clipped_told : List ℕ → Outcome Clipped → List ℕ
+clipped_told n (Ok None) = set (set n 0 0) 1 0
+clipped_told n (Ok (Some x)) = set (set n 0 x.faces) 1 x.corners
+clipped_told n (Err r) = n
 
 -- what lies behind the places: the part, nothing where nothing is left or was lent, and at any other refusal the faces before it
 unfoldable pub behind : Bool → Outcome Part → Cell → Type 0
 behind false o c = c ≡ []
-behind true (ok nothing) c = c ≡ []
-behind true (ok (part p)) c = c ≡ p
-behind true (refused r) c = Unit {0}
+behind true (Ok nothing) c = c ≡ []
+behind true (Ok (part p)) c = c ≡ p
+behind true (Err r) c = Unit {0}
 
 unfoldable pub clip_fits : ℕ → ℕ → ℕ → List ℕ → ℕ → ℕ → ℕ → ℕ → ℕ → ℕ → ℕ → ℕ → ℕ → ℕ → ℕ → ℕ → Bool
 clip_fits limit m from sizes j faces d at n k face cap flat order chain told =

@@ -2,35 +2,33 @@
 
 // `unique`, `hull` and `clip` for the tests that call them from outside. 64 says that a slice was too short for the call, which
 // then leaves everything as it was.
-ghost use Rattle.std.specs.Prelude.{◌≡◌, ◌+◌, ◌*◌, ◌≤◌, length, set, leb};
-ghost use Rattle.std.proofs.lemmas.List.Edits.{sets};
-ghost use Rattle.polygon.specs.Polygons.{corners_of};
-ghost use Rattle.polygon.specs.Memory.{floats_of};
+ghost use Rattle.std.specs.Prelude.{◌≡◌, ◌+◌, ◌*◌, ◌≤◌, length, leb};
+ghost use Rattle.std.specs.Result.{IfOk};
 ghost use Rattle.room.specs.Rooms.{cell_at, counts_at};
 ghost use Rattle.clip.specs.Cuts.{clip};
 ghost use Rattle.clip.specs.Clips.{number_of_clipped};
-ghost use Rattle.lent.specs.Lent.{number_by, where_fine, plane_by};
-ghost use Rattle.cut_leaves.specs.Lending.{Told, unique_fits, unique_lent, hull_fits, hull_lent, within_fits, cell_fits, work_fits, place_fits, clipped_told, clip_fits, Cut};
+ghost use Rattle.lent.specs.Lent.{plane_by};
+ghost use Rattle.refusal.specs.Outcome.{number_of};
+ghost use Rattle.cut_leaves.specs.Lending.{Told, corners_put, count_put, unique_fits, unique_lent, hull_fits, hull_lent, within_fits, cell_fits, work_fits, place_fits, clipped_told, clip_fits, Cut};
 
-use clip::Clipped;
-use polygon::Made;
-use refusal::Verdict;
+use clip::Kept;
+use polygon::Polygon;
+use refusal::Refusal;
 use space::Precision;
 
 const SHORT: u64 = 64;
 
 // The corners, and how many there are, or the number of the refusal.
-fn put_made(out: &mut [f64], told: &mut [u64], m: Made) -> u64
-    requires { (384 ≤ length out.old) × (1 ≤ length told.old) × (m.polygon.n ≤ 128) }
-    ensures value { result ≡ number_by m.verdict }
-    ensures out_after { out.new ≡ where_fine m.verdict (sets out.old 0 (floats_of (corners_of m.polygon))) out.old }
-    ensures told_after { told.new ≡ where_fine m.verdict (set told.old 0 m.polygon.n) told.old }
+#[tactic(auto, unfolding(crate::specs::Lending::corners_put, crate::specs::Lending::count_put, refusal::specs::Outcome::number_of))]
+fn put_made(out: &mut [f64], told: &mut [u64], m: Result<Polygon, Refusal>) -> u64
+    requires { (384 ≤ length out.old) × (1 ≤ length told.old) × IfOk m (λ p. p.n ≤ 128) }
+    ensures value { result ≡ number_of m }
+    ensures out_after { out.new ≡ corners_put out.old m }
+    ensures told_after { told.new ≡ count_put told.old m }
 {
-    let v = m.verdict;
-    let p = m.polygon;
-    match v {
-        Verdict::Refused(e) => e.number,
-        Verdict::Fine => {
+    match m {
+        Err(e) => e.number,
+        Ok(p) => {
             told[0] = p.n as u64;
             room::put_points(out, 0, p);
             0
@@ -38,6 +36,7 @@ fn put_made(out: &mut [f64], told: &mut [u64], m: Made) -> u64
     }
 }
 
+#[tactic(auto, unfolding(crate::specs::Lending::unique_fits))]
 fn unique_fits(points: usize, out: usize, told: usize) -> bool
     ensures { result ≡ unique_fits points out told }
 {
@@ -59,6 +58,7 @@ pub extern "C" fn leaf_unique(points: &[f64], local: f64, out: &mut [f64], told:
     put_made(out, told, polygon::unique(points, 0, points.len() / 3, t))
 }
 
+#[tactic(auto, unfolding(crate::specs::Lending::hull_fits))]
 fn hull_fits(
     points: usize,
     cap: usize,
@@ -117,8 +117,7 @@ fn within_fits(m: usize, from: usize, sizes: &[u64], j: usize, faces: usize) -> 
     ensures { result ≡ within_fits (counts_at sizes.now j faces) from m }
 {
     let mut o = from;
-    let mut i = 0;
-    while i < faces {
+    for i in 0..faces {
         let n = sizes[j + i];
         if 128 < n {
             return false;
@@ -128,7 +127,6 @@ fn within_fits(m: usize, from: usize, sizes: &[u64], j: usize, faces: usize) -> 
             return false;
         }
         o += size;
-        i += 1;
     }
     true
 }
@@ -149,6 +147,7 @@ fn cell_fits(m: usize, from: usize, sizes: &[u64], j: usize, faces: usize) -> bo
     within_fits(m, from, sizes, j, faces)
 }
 
+#[tactic(auto, unfolding(crate::specs::Lending::work_fits))]
 fn work_fits(face: usize, cap: usize, flat: usize, order: usize, chain: usize) -> bool
     ensures { result ≡ work_fits face cap flat order chain }
 {
@@ -185,29 +184,33 @@ fn counts_fit(n: usize, k: usize) -> bool
     true
 }
 
+#[tactic(auto, unfolding(crate::specs::Lending::place_fits))]
 fn place_fits(limit: usize, d: usize, at: usize, n: usize, k: usize, told: usize) -> bool
     ensures { result ≡ place_fits limit d at n k told }
 {
     floats_fit(limit, d, at) & (counts_fit(n, k) & (2 <= told))
 }
 
-fn put_clipped(told: &mut [u64], r: Clipped) -> u64
+#[tactic(auto, unfolding(clip::specs::Clips::number_of_clipped, crate::specs::Lending::clipped_told))]
+fn put_clipped(told: &mut [u64], r: Result<Option<Kept>, Refusal>) -> u64
     requires { 2 ≤ length told.old }
     ensures value { result ≡ number_of_clipped r }
     ensures told_after { told.new ≡ clipped_told told.old r }
 {
     match r {
-        Clipped::Refused(e) => e.number,
-        Clipped::Nothing => {
-            told[0] = 0;
-            told[1] = 0;
-            0
-        }
-        Clipped::Part(faces, held) => {
-            told[0] = faces as u64;
-            told[1] = held as u64;
-            0
-        }
+        Ok(part) => match part {
+            None => {
+                told[0] = 0;
+                told[1] = 0;
+                0
+            }
+            Some(kept) => {
+                told[0] = kept.faces as u64;
+                told[1] = kept.corners as u64;
+                0
+            }
+        },
+        Err(e) => e.number,
     }
 }
 

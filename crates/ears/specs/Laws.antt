@@ -1,5 +1,6 @@
 -- Laws of places and of the scan, in the words of the code.
-use Rattle.std.specs.Prelude.{◌≡◌, refl, Bool, true, false, cond, List, [], ◌∷◌, ◌++◌, length, take, drop, get_or, set, ltb}
+use Rattle.refusal.specs.Outcome.{Outcome}
+use Rattle.std.specs.Prelude.{◌≡◌, refl, Bool, true, false, cond, List, [], ◌∷◌, ◌++◌, length, take, drop, get_or, set, ltb, Ok, Err}
 use Rattle.std.proofs.Common.{sym, ◌∙◌, add-one, mod-lt, not-suc-le-zero, le_of_suc-le-suc, length-take-le, take_at, take-suc, take_all, lt-ltb, le-ltb}
 use Rattle.std.proofs.Math.Path.{ap}
 use Prim.Native.Nat.{ℕ, zero, suc, ◌+◌, ◌-◌, ◌%◌, ◌≤◌, ◌<◌}
@@ -14,7 +15,6 @@ use Rattle.turns.specs.declared.Turn.{Turn}
 use Rattle.turns.specs.declared.Turn.TheVariants as T
 use Rattle.turns.specs.Turns.{orientation_of}
 use Rattle.outline.specs.Project.{astray}
-use Rattle.simple.specs.Simple.{at}
 use Rattle.ears.specs.declared.Active.{Active}
 use Rattle.ears.specs.declared.Triangle.{Triangle}
 use Rattle.ears.specs.declared.Block.{Block}
@@ -164,7 +164,7 @@ window_low l n i w e low =
 -- ---- turns and blocks by the array of an outline
 
 module _ (p : Precision) (l : List Projected) (n : ℕ) (w : Triangle) (W : Within n w) where
-  pub turn_is : (t : Turn) → t ≡ orientation_of p (get_or l w.a astray) (get_or l w.b astray) (get_or l w.c astray) → t ≡ turn_at p (take n l) w
+  pub turn_is : (t : Outcome Turn) → t ≡ orientation_of p (get_or l w.a astray) (get_or l w.b astray) (get_or l w.c astray) → t ≡ turn_at p (take n l) w
   unfolding turn_at
   turn_is t e =
       let a₀ = get_or-take n l w.a astray W.a_low in
@@ -172,7 +172,7 @@ module _ (p : Precision) (l : List Projected) (n : ℕ) (w : Triangle) (W : With
       let a₂ = get_or-take n l w.c astray W.c_low in
       cc
 
-  pub block_is : (q : ℕ) (b : Bool) (r : Block) → q < n → b ≡ corner_of w q
+  pub block_is : (q : ℕ) (b : Bool) (r : Outcome Block) → q < n → b ≡ corner_of w q
       → r ≡ block_in b p (get_or l w.a astray) (get_or l w.b astray) (get_or l w.c astray) (get_or l q astray) → r ≡ block_at p (take n l) w q
   unfolding block_at
   block_is q b r h e f =
@@ -183,47 +183,47 @@ module _ (p : Precision) (l : List Projected) (n : ℕ) (w : Triangle) (W : With
       cc
 
 module _ (p : Precision) (a b c q : Projected) where
-  pub block_own : (o : Bool) → o ≡ true → B.Clear ≡ block_in o p a b c q
+  pub block_own : (o : Bool) → o ≡ true → (Ok B.Clear) ≡ block_in o p a b c q
   unfolding block_in
   block_own o e = ap (λ x. block_in x p a b c q) (sym e)
 
-  pub block_other : (o : Bool) (r : Block) → o ≡ false → r ≡ inside_of p a b c q → r ≡ block_in o p a b c q
+  pub block_other : (o : Bool) (r : Outcome Block) → o ≡ false → r ≡ inside_of p a b c q → r ≡ block_in o p a b c q
   unfolding block_in
   block_other o r e f = f ∙ ap (λ x. block_in x p a b c q) (sym e)
 
 -- ---- one turn of the blocking test
 
 module _ (p : Precision) (ps : List Projected) (w : Triangle) (l : List ℕ) (n j : ℕ) where
-  abbrev pub others : Block
+  abbrev pub others : Outcome Block
   others = blocked_by p ps w (drop j (take n l))
 
-  others_are : (r : Block) → j < n → n ≤ length l → r ≡ block_at p ps w (get_or l j 0) → others ≡ or_else r (blocked_by p ps w (drop (j + 1) (take n l)))
+  others_are : (r : Outcome Block) → j < n → n ≤ length l → r ≡ block_at p ps w (get_or l j 0) → others ≡ or_else r (blocked_by p ps w (drop (j + 1) (take n l)))
   unfolding blocked_by
   others_are r h k e = ap (blocked_by p ps w) (next l n j 0 h k) ∙ ap (λ x. or_else x (blocked_by p ps w (drop (j + 1) (take n l)))) (sym e)
 
-  pub block_go : (r : Block) → j < n → n ≤ length l → r ≡ block_at p ps w (get_or l j 0) → r ≡ B.Clear → others ≡ blocked_by p ps w (drop (j + 1) (take n l))
+  pub block_go : (r : Outcome Block) → j < n → n ≤ length l → r ≡ block_at p ps w (get_or l j 0) → r ≡ Ok B.Clear → others ≡ blocked_by p ps w (drop (j + 1) (take n l))
   unfolding or_else
   block_go r h k e f = others_are r h k e ∙ ap (λ x. or_else x (blocked_by p ps w (drop (j + 1) (take n l)))) f
 
-  pub block_stop : (r : Block) → j < n → n ≤ length l → r ≡ block_at p ps w (get_or l j 0) → r ≡ B.Blocked → others ≡ B.Blocked
+  pub block_stop : (r : Outcome Block) → j < n → n ≤ length l → r ≡ block_at p ps w (get_or l j 0) → r ≡ Ok B.Blocked → others ≡ Ok B.Blocked
   unfolding or_else
   block_stop r h k e f = others_are r h k e ∙ ap (λ x. or_else x (blocked_by p ps w (drop (j + 1) (take n l)))) f
 
-  pub block_refused : (r : Block) (x : Refusal) → j < n → n ≤ length l → r ≡ block_at p ps w (get_or l j 0) → r ≡ B.Refused x → others ≡ B.Refused x
+  pub block_refused : (r : Outcome Block) (x : Refusal) → j < n → n ≤ length l → r ≡ block_at p ps w (get_or l j 0) → r ≡ Err x → others ≡ Err x
   unfolding or_else
   block_refused r x h k e f = others_are r h k e ∙ ap (λ y. or_else y (blocked_by p ps w (drop (j + 1) (take n l)))) f
 
-  pub block_end : n ≤ j → others ≡ B.Clear
+  pub block_end : n ≤ j → others ≡ Ok B.Clear
   unfolding blocked_by
   block_end h = ap (blocked_by p ps w) (done l n j h)
 
 -- ---- one turn of the scan
 
 module _ (p : Precision) (ps : List Projected) (l : List ℕ) (n i : ℕ) (w : Triangle) (h : i < n) (e : w ≡ window_at l i) where
-  abbrev pub here : Found
+  abbrev pub here : Outcome Found
   here = scan_from p ps l i (n - i)
 
-  abbrev pub there : Found
+  abbrev pub there : Outcome Found
   there = scan_from p ps l (i + 1) (n - (i + 1))
 
   here_is : here ≡ found_by (turn_at p ps w) (blocked_by p ps w l) i w there
@@ -234,31 +234,31 @@ module _ (p : Precision) (ps : List Projected) (l : List ℕ) (n i : ℕ) (w : T
       ∙ ap (λ j. found_at p ps l i (window_at l i) (scan_from p ps l j (n - (i + 1)))) (sym (add-one i))
       ∙ ap (λ v. found_at p ps l i v there) (sym e)
 
-  pub scan_straight : T.Zero ≡ turn_at p ps w → here ≡ F.Straight i
+  pub scan_straight : (Ok T.Zero) ≡ turn_at p ps w → here ≡ Ok (F.Straight i)
   unfolding found_by
   scan_straight t = here_is ∙ ap (λ x. found_by x (blocked_by p ps w l) i w there) (sym t)
 
-  pub scan_refused : (r : Refusal) → T.Refused r ≡ turn_at p ps w → here ≡ F.Refused r
+  pub scan_refused : (r : Refusal) → Err r ≡ turn_at p ps w → here ≡ Err r
   unfolding found_by
   scan_refused r t = here_is ∙ ap (λ x. found_by x (blocked_by p ps w l) i w there) (sym t)
 
-  pub scan_past : T.Negative ≡ turn_at p ps w → here ≡ there
+  pub scan_past : (Ok T.Negative) ≡ turn_at p ps w → here ≡ there
   unfolding found_by
   scan_past t = here_is ∙ ap (λ x. found_by x (blocked_by p ps w l) i w there) (sym t)
 
-  ear_is : T.Positive ≡ turn_at p ps w → here ≡ ear_by (blocked_by p ps w l) i w there
+  ear_is : (Ok T.Positive) ≡ turn_at p ps w → here ≡ ear_by (blocked_by p ps w l) i w there
   unfolding found_by
   ear_is t = here_is ∙ ap (λ x. found_by x (blocked_by p ps w l) i w there) (sym t)
 
-  pub scan_ear : T.Positive ≡ turn_at p ps w → blocked_by p ps w l ≡ B.Clear → here ≡ F.Ear i w
+  pub scan_ear : (Ok T.Positive) ≡ turn_at p ps w → blocked_by p ps w l ≡ Ok B.Clear → here ≡ Ok (F.Ear i w)
   unfolding ear_by
   scan_ear t b = ear_is t ∙ ap (λ x. ear_by x i w there) b
 
-  pub scan_blocked : T.Positive ≡ turn_at p ps w → blocked_by p ps w l ≡ B.Blocked → here ≡ there
+  pub scan_blocked : (Ok T.Positive) ≡ turn_at p ps w → blocked_by p ps w l ≡ Ok B.Blocked → here ≡ there
   unfolding ear_by
   scan_blocked t b = ear_is t ∙ ap (λ x. ear_by x i w there) b
 
-  pub scan_unresolved : (r : Refusal) → T.Positive ≡ turn_at p ps w → blocked_by p ps w l ≡ B.Refused r → here ≡ F.Refused r
+  pub scan_unresolved : (r : Refusal) → (Ok T.Positive) ≡ turn_at p ps w → blocked_by p ps w l ≡ Err r → here ≡ Err r
   unfolding ear_by
   scan_unresolved r t b = ear_is t ∙ ap (λ x. ear_by x i w there) b
 
@@ -266,6 +266,6 @@ pub scan_start : (p : Precision) (ps : List Projected) (l : List ℕ) (n : ℕ) 
 unfolding scan_of
 scan_start p ps l n h = let e : n - 0 ≡ length (take n l) = omega (arith, length-take-le n l h) in ap (scan_from p ps (take n l) 0) e
 
-pub scan_end : (p : Precision) (ps : List Projected) (l : List ℕ) (n i : ℕ) → n ≤ i → scan_from p ps l i (n - i) ≡ F.Nothing
+pub scan_end : (p : Precision) (ps : List Projected) (l : List ℕ) (n i : ℕ) → n ≤ i → scan_from p ps l i (n - i) ≡ Ok F.Nothing
 unfolding scan_from
 scan_end p ps l n i h = let e : n - i ≡ 0 = omega arith in ap (scan_from p ps l i) e

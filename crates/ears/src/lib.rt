@@ -4,7 +4,8 @@
 ghost use Rattle.std.specs.Prelude.{◌≡◌, [], ◌+◌, ◌-◌, ◌%◌, ◌<◌, ◌≤◌};
 ghost use Rattle.outline.specs.Project.{points_of};
 ghost use Rattle.ears.specs.Places.{places_of, active, up_from, past_of, without, window_at};
-ghost use Rattle.ears.specs.Ears.{allows, resolved, blocked_where, inside_by, inside_of, corner_of, block_in, scan_of, Ready};
+ghost use Rattle.ears.specs.Ears.{turn_at, allows, blocked_where, inside_by, inside_of, corner_of, block_in, block_at, blocked_by, scan_of, Ready};
+ghost use Rattle.ears.specs.Laws.{Within};
 
 use outline::Outline;
 use refusal::Refusal;
@@ -31,7 +32,6 @@ pub struct Active {
 pub enum Block {
     Clear,
     Blocked,
-    Refused(Refusal),
 }
 
 // What a scan of the corners finds, and at which of them.
@@ -40,7 +40,6 @@ pub enum Found {
     Ear(usize, Triangle),
     Straight(usize),
     Nothing,
-    Refused(Refusal),
 }
 
 pub fn none() -> Active
@@ -55,10 +54,8 @@ pub fn all_places(n: usize) -> Active
     ensures { result ≡ active (up_from 0 n) }
 {
     let mut out = none();
-    let mut i = 0;
-    while i < n {
+    for i in 0..n {
         out.at[i] = i;
-        i += 1;
     }
     out.n = n;
     out
@@ -81,11 +78,9 @@ pub fn remove(a: Active, i: usize) -> Active
 {
     let last = a.n - 1;
     let mut out = none();
-    let mut j = 0;
-    while j < last {
+    for j in 0..last {
         let k = past(i, j);
         out.at[j] = a.at[k];
-        j += 1;
     }
     out.n = last;
     out
@@ -121,43 +116,47 @@ fn is_corner(w: Triangle, q: usize) -> bool
 }
 
 // Positive, as expected, or Zero.
-fn allows(s: Turn) -> bool
+fn allows(s: Result<Turn, Refusal>) -> bool
     ensures { result ≡ allows s }
 {
     turns::is_positive(s) | turns::is_zero(s)
 }
 
-fn blocked_where(inside: bool) -> Block
+#[tactic(auto, unfolding(crate::specs::Ears::blocked_where))]
+fn blocked_where(inside: bool) -> Result<Block, Refusal>
     ensures { result ≡ blocked_where inside }
 {
     if inside {
-        return Block::Blocked;
+        return Ok(Block::Blocked);
     }
-    Block::Clear
-}
-
-// 33 where the turn is unresolved, else b.
-fn resolved(s: Turn, b: Block) -> Block
-    ensures { result ≡ resolved s b }
-{
-    match s {
-        Turn::Positive => b,
-        Turn::Negative => b,
-        Turn::Zero => b,
-        Turn::Refused(r) => Block::Refused(r),
-    }
+    Ok(Block::Clear)
 }
 
 // The first turn that is unresolved decides, then whether all three allow it.
-fn inside_by(s0: Turn, s1: Turn, s2: Turn) -> Block
+#[tactic(auto, unfolding(crate::specs::Ears::inside_by, crate::specs::Ears::resolved))]
+fn inside_by(
+    s0: Result<Turn, Refusal>,
+    s1: Result<Turn, Refusal>,
+    s2: Result<Turn, Refusal>,
+) -> Result<Block, Refusal>
     ensures { result ≡ inside_by s0 s1 s2 }
 {
     let held = allows(s0) & (allows(s1) & allows(s2));
-    resolved(s0, resolved(s1, resolved(s2, blocked_where(held))))
+    s0?;
+    s1?;
+    s2?;
+    blocked_where(held)
 }
 
 // q against the triangle of a, b and c.
-fn inside(p: Precision, a: Projected, b: Projected, c: Projected, q: Projected) -> Block
+#[tactic(auto, unfolding(crate::specs::Ears::inside_of))]
+fn inside(
+    p: Precision,
+    a: Projected,
+    b: Projected,
+    c: Projected,
+    q: Projected,
+) -> Result<Block, Refusal>
     ensures { result ≡ inside_of p a b c q }
 {
     let s0 = turns::orientation(p, a, b, q);
@@ -167,6 +166,7 @@ fn inside(p: Precision, a: Projected, b: Projected, c: Projected, q: Projected) 
 }
 
 // A corner of the triangle itself blocks nothing.
+#[tactic(auto, unfolding(crate::specs::Ears::block_in))]
 fn block_in(
     own: bool,
     p: Precision,
@@ -174,57 +174,57 @@ fn block_in(
     b: Projected,
     c: Projected,
     q: Projected,
-) -> Block
+) -> Result<Block, Refusal>
     ensures { result ≡ block_in own p a b c q }
 {
     if own {
-        return Block::Clear;
+        return Ok(Block::Clear);
     }
     inside(p, a, b, c, q)
 }
 
+// The turn at three places of the outline.
+pub fn turn_at(p: Precision, o: Outline, w: Triangle) -> Result<Turn, Refusal>
+    requires { Within o.n w × (o.n ≤ 128) }
+    ensures { result ≡ turn_at p (points_of o) w }
+{
+    turns::orientation(p, o.at[w.a], o.at[w.b], o.at[w.c])
+}
+
+// The corner at place q against the ear w.
+fn block_at(p: Precision, o: Outline, w: Triangle, q: usize) -> Result<Block, Refusal>
+    requires { Within o.n w × (q < o.n) × (o.n ≤ 128) }
+    ensures { result ≡ block_at p (points_of o) w q }
+{
+    block_in(is_corner(w, q), p, o.at[w.a], o.at[w.b], o.at[w.c], o.at[q])
+}
+
 // The first corner that is straight, or an ear that no other corner blocks: 33.
-pub fn scan(p: Precision, o: Outline, active: Active) -> Found
+pub fn scan(p: Precision, o: Outline, active: Active) -> Result<Found, Refusal>
     requires { Ready o active }
     ensures { result ≡ scan_of p (points_of o) (places_of active) }
 {
-    let n = active.n;
     let mut found = Found::Nothing;
-    let mut i = 0;
-    'corners: while i < n {
+    'corners: for i in 0..active.n {
         let w = window(active, i);
-        let ia = w.a;
-        let ib = w.b;
-        let ic = w.c;
-        let a = o.at[ia];
-        let b = o.at[ib];
-        let c = o.at[ic];
-        let turn = turns::orientation(p, a, b, c);
-        match turn {
+        match turn_at(p, o, w)? {
             Turn::Positive => {}
-            Turn::Negative => {
-                i += 1;
-                continue 'corners;
-            }
-            Turn::Zero => return Found::Straight(i),
-            Turn::Refused(r) => return Found::Refused(r),
+            Turn::Negative => continue 'corners,
+            Turn::Zero => return Ok(Found::Straight(i)),
         }
+        // An ear leaves both loops at once, as document 01 asks, so the inner one ends in its midst and counts by hand.
         let mut j = 0;
         loop {
-            if j == n {
+            if j == active.n {
                 found = Found::Ear(i, w);
                 break 'corners;
             }
-            let q = active.at[j];
-            let blocked = block_in(is_corner(w, q), p, a, b, c, o.at[q]);
-            match blocked {
+            match block_at(p, o, w, active.at[j])? {
                 Block::Clear => {}
                 Block::Blocked => break,
-                Block::Refused(r) => return Found::Refused(r),
             }
             j += 1;
         }
-        i += 1;
     }
-    found
+    Ok(found)
 }

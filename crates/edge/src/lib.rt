@@ -2,11 +2,10 @@
 
 // How a corner and an edge meet the plane of a cut.
 ghost use Rattle.std.specs.Prelude.{◌≡◌};
-ghost use Rattle.refusal.specs.Outcome.{ok, then};
-ghost use Rattle.edge.specs.Meets.{unseen, noted, seen, at_corner, held_back, corner_meet, is_positive, is_negative, crosses, vague, no_ratio, between, landed, unless_vague, cut_meet, edge_meet};
+ghost use Rattle.edge.specs.Meets.{unseen, noted, at_corner, held_back, corner_meet, is_positive, is_negative, crosses, vague, no_ratio, between, landed, unless_vague, cut_meet, edge_meet};
 
 use interval::Sign;
-use refusal::{Refusal, Verdict};
+use refusal::Refusal;
 use side::Side;
 use space::{Plane, Point3, Precision};
 
@@ -17,124 +16,108 @@ pub enum Meet {
     Drop,
     Touch,
     Cut(f64, f64, f64),
-    Refused(Refusal),
 }
 
 // Whether corners lie on the negative and on the positive side.
 #[derive(Clone, Copy)]
 pub struct Seen {
-    pub verdict: Verdict,
     pub negative: bool,
     pub positive: bool,
 }
 
 pub fn unseen() -> Seen
-    ensures { seen result ≡ ok unseen }
+    ensures { result ≡ unseen }
 {
     Seen {
-        verdict: Verdict::Fine,
         negative: false,
         positive: false,
     }
 }
 
-fn with_side(s: Seen, side: Side) -> Seen
-    ensures { seen result ≡ noted (record { negative = s.negative; positive = s.positive }) side }
+// One corner more.
+#[tactic(auto, unfolding(crate::specs::Meets::noted))]
+pub fn note(s: Seen, side: Result<Side, Refusal>) -> Result<Seen, Refusal>
+    ensures { result ≡ noted s side }
 {
-    match side {
-        Side::Positive => Seen {
-            verdict: Verdict::Fine,
+    match side? {
+        Side::Positive => Ok(Seen {
             negative: s.negative,
             positive: true,
-        },
-        Side::Negative => Seen {
-            verdict: Verdict::Fine,
+        }),
+        Side::Negative => Ok(Seen {
             negative: true,
             positive: s.positive,
-        },
-        Side::Zero => Seen {
-            verdict: Verdict::Fine,
-            negative: s.negative,
-            positive: s.positive,
-        },
-        Side::Refused(r) => Seen {
-            verdict: Verdict::Refused(r),
-            negative: s.negative,
-            positive: s.positive,
-        },
+        }),
+        Side::Zero => Ok(s),
     }
 }
 
-// One corner more; a refusal stays.
-pub fn note(s: Seen, side: Side) -> Seen
-    ensures { seen result ≡ then (seen s) (λ x. noted x side) }
-{
-    let v = s.verdict;
-    match v {
-        Verdict::Fine => with_side(s, side),
-        Verdict::Refused(_) => s,
-    }
-}
-
-fn at_corner(s: Side) -> Meet
+#[tactic(auto, unfolding(crate::specs::Meets::at_corner))]
+fn at_corner(s: Result<Side, Refusal>) -> Result<Meet, Refusal>
     ensures { result ≡ at_corner s }
 {
-    match s {
-        Side::Positive => Meet::Drop,
-        Side::Negative => Meet::Keep,
-        Side::Zero => Meet::Touch,
-        Side::Refused(r) => Meet::Refused(r),
+    match s? {
+        Side::Positive => Ok(Meet::Drop),
+        Side::Negative => Ok(Meet::Keep),
+        Side::Zero => Ok(Meet::Touch),
     }
 }
 
-fn held_back(s: Side, m: Meet) -> Meet
+#[tactic(auto, unfolding(crate::specs::Meets::held_back))]
+fn held_back(s: Result<Side, Refusal>, m: Result<Meet, Refusal>) -> Result<Meet, Refusal>
     ensures { result ≡ held_back s m }
 {
-    match s {
+    match s? {
         Side::Positive => m,
         Side::Negative => m,
         Side::Zero => m,
-        Side::Refused(r) => Meet::Refused(r),
     }
 }
 
 // What the corner at the edge's start gives, both ends being classified first.
-pub fn corner_meet(a: Side, b: Side) -> Meet
+pub fn corner_meet(a: Result<Side, Refusal>, b: Result<Side, Refusal>) -> Result<Meet, Refusal>
     ensures { result ≡ corner_meet a b }
 {
     held_back(a, held_back(b, at_corner(a)))
 }
 
-fn is_positive(s: Side) -> bool
+fn is_positive(s: Result<Side, Refusal>) -> bool
     ensures { result ≡ is_positive s }
 {
     match s {
-        Side::Positive => true,
-        Side::Negative => false,
-        Side::Zero => false,
-        Side::Refused(_) => false,
+        Ok(side) => match side {
+            Side::Positive => true,
+            Side::Negative => false,
+            Side::Zero => false,
+        },
+        Err(_) => false,
     }
 }
 
-fn is_negative(s: Side) -> bool
+fn is_negative(s: Result<Side, Refusal>) -> bool
     ensures { result ≡ is_negative s }
 {
     match s {
-        Side::Positive => false,
-        Side::Negative => true,
-        Side::Zero => false,
-        Side::Refused(_) => false,
+        Ok(side) => match side {
+            Side::Positive => false,
+            Side::Negative => true,
+            Side::Zero => false,
+        },
+        Err(_) => false,
     }
 }
 
-fn crosses(a: Side, b: Side) -> bool
+#[tactic(auto, unfolding(crate::specs::Meets::crosses))]
+fn crosses(a: Result<Side, Refusal>, b: Result<Side, Refusal>) -> bool
     ensures { result ≡ crosses a b }
 {
     match a {
-        Side::Positive => is_negative(b),
-        Side::Negative => is_positive(b),
-        Side::Zero => false,
-        Side::Refused(_) => false,
+        Ok(side) => match side {
+            Side::Positive => is_negative(b),
+            Side::Negative => is_positive(b),
+            Side::Zero => false,
+        },
+        Err(_) => false,
     }
 }
 
@@ -164,28 +147,28 @@ fn between(plane: Plane, a: Point3, b: Point3) -> Point3
     space::plus(a, space::times(space::minus(b, a), da / (da - db)))
 }
 
-fn landed(s: Side, q: Point3) -> Meet
+#[tactic(auto, unfolding(crate::specs::Meets::landed))]
+fn landed(s: Result<Side, Refusal>, q: Point3) -> Result<Meet, Refusal>
     ensures { result ≡ landed s q }
 {
-    match s {
-        Side::Positive => Meet::Refused(refusal::refuse(9)),
-        Side::Negative => Meet::Refused(refusal::refuse(9)),
-        Side::Zero => Meet::Cut(q.x, q.y, q.z),
-        Side::Refused(r) => Meet::Refused(r),
+    match s? {
+        Side::Positive => Err(refusal::refuse(9)),
+        Side::Negative => Err(refusal::refuse(9)),
+        Side::Zero => Ok(Meet::Cut(q.x, q.y, q.z)),
     }
 }
 
-fn unless_vague(bad: bool, m: Meet) -> Meet
+fn unless_vague(bad: bool, m: Result<Meet, Refusal>) -> Result<Meet, Refusal>
     ensures { result ≡ unless_vague bad m }
 {
     if bad {
-        return Meet::Refused(refusal::refuse(8));
+        return Err(refusal::refuse(8));
     }
     m
 }
 
 // The point where an edge crosses the plane; it has to be Zero against it.
-fn cut_meet(t: Precision, plane: Plane, a: Point3, b: Point3) -> Meet
+fn cut_meet(t: Precision, plane: Plane, a: Point3, b: Point3) -> Result<Meet, Refusal>
     ensures { result ≡ cut_meet t plane a b }
 {
     let q = between(plane, a, b);
@@ -196,11 +179,18 @@ fn cut_meet(t: Precision, plane: Plane, a: Point3, b: Point3) -> Meet
 }
 
 // What the rest of the edge gives.
-pub fn edge_meet(t: Precision, plane: Plane, a: Point3, b: Point3, sa: Side, sb: Side) -> Meet
+pub fn edge_meet(
+    t: Precision,
+    plane: Plane,
+    a: Point3,
+    b: Point3,
+    sa: Result<Side, Refusal>,
+    sb: Result<Side, Refusal>,
+) -> Result<Meet, Refusal>
     ensures { result ≡ edge_meet t plane a b sa sb }
 {
     if crosses(sa, sb) {
         return cut_meet(t, plane, a, b);
     }
-    Meet::Drop
+    Ok(Meet::Drop)
 }

@@ -1,13 +1,13 @@
 -- The edges that facets run, three numbers each in a slice: the facet's place in the body, where the edge begins, where it ends.
-use Rattle.std.specs.Prelude.{◌≡◌, ℕ, zero, suc, ◌+◌, ◌-◌, ◌*◌, ◌%◌, ◌≤◌, ◌<◌, length, get_or, set, take, drop}
+use Rattle.std.specs.Prelude.{◌≡◌, ℕ, suc, ◌+◌, ◌-◌, ◌*◌, ◌%◌, ◌≤◌, ◌<◌, length, get_or, set, take, drop}
 use Rattle.std.proofs.Math.Path.{refl, sym, ap}
-use Rattle.std.proofs.Common.{ap₂, ◌∙◌, subst, arith, add-one, mod-lt, length-append, length-set, drop_of_length-le, get_or-set_same, get_or-set_other, get_or-take, get_or-drop, drop-cons, ext_get_or}
+use Rattle.std.proofs.Common.{ap₂, ◌∙◌, arith, add-one, mod-lt, length-append, length-set, drop_of_length-le, get_or-set_same, get_or-set_other, get_or-take, get_or-drop, drop-cons, ext_get_or}
 use mathlib.Core.List.{List, [], ◌∷◌, ◌++◌, map, append_assoc, append-nil}
 use Rattle.std.proofs.Math.Decide.{dec_lt}
 use Rattle.std.proofs.lemmas.List.{length-map}
 use Rattle.std.proofs.Math.ListN.{get_or-append}
 use Rattle.std.proofs.Math.Seq.{slice, length-slice, get_or-append_seam}
-use Rattle.lists.specs.Walks.{Pair, cyclic}
+use Rattle.lists.specs.Walks.{cyclic}
 use Rattle.lists.specs.Laws.{next_pair, length_cyclic}
 use Rattle.sums.specs.Sum.{Each}
 use Rattle.sums.specs.Keys.{range}
@@ -105,15 +105,14 @@ laid_more d c p x y h = ext_get_or no_run (laid_runs d' (c + 1)) (laid_runs d c 
 
 -- ---- the loop round one facet
 
-pub record Rounding (v : List ℕ) (a e p c₀ : ℕ) (d₀ d : List ℕ) (c i : ℕ) : Type 0 where
+pub record Rounding (v : List ℕ) (a e p c₀ : ℕ) (d₀ d : List ℕ) (i : ℕ) : Type 0 where
   pub upto : i ≤ e - a
-  pub count : c ≡ c₀ + i
-  pub left : laid_runs d c ++ map (run_of p) (drop i (cyclic (slice a e v))) ≡ laid_runs d₀ c₀ ++ map (run_of p) (cyclic (slice a e v))
+  pub left : laid_runs d (c₀ + i) ++ map (run_of p) (drop i (cyclic (slice a e v))) ≡ laid_runs d₀ c₀ ++ map (run_of p) (cyclic (slice a e v))
   pub size : length d ≡ length d₀
 
 module _ (v : List ℕ) (a e p c₀ : ℕ) (d₀ : List ℕ) where
-  pub rounding_start : Rounding v a e p c₀ d₀ d₀ c₀ 0
-  rounding_start = record { upto = omega arith; count = omega arith; left = refl; size = refl }
+  pub rounding_start : Rounding v a e p c₀ d₀ d₀ 0
+  rounding_start = record { upto = omega arith; left = let z : c₀ + 0 ≡ c₀ = omega arith in ap (λ c. laid_runs d₀ c ++ map (run_of p) (cyclic (slice a e v))) z; size = refl }
 
   module _ (ha : a ≤ e) (hv : e ≤ length v) (room : 3 * (c₀ + (e - a)) ≤ length d₀) where
     run_at : (i : ℕ) → i < e - a → get_or (slice a e v) i 0 ≡ get_or v (a + i) 0
@@ -122,8 +121,10 @@ module _ (v : List ℕ) (a e p c₀ : ℕ) (d₀ : List ℕ) where
     pub rounding_next : (i : ℕ) → i < e - a → a + (i + 1) % (e - a) < length v
     rounding_next i h = let z : (i + 1) % (e - a) < e - a = mod-lt (i + 1) (omega arith) in omega arith
 
-    pub rounding_step : (d d' : List ℕ) (c i : ℕ) → i < e - a → Rounding v a e p c₀ d₀ d c i → d' ≡ put_run d c p (get_or v (a + i) 0) (get_or v (a + (i + 1) % (e - a)) 0) → Rounding v a e p c₀ d₀ d' (c + 1) (i + 1)
-    rounding_step d d' c i h w q =
+    pub rounding_step : (d d' : List ℕ) (i : ℕ) → i < e - a → Rounding v a e p c₀ d₀ d i → d' ≡ put_run d (c₀ + i) p (get_or v (a + i) 0) (get_or v (a + (i + 1) % (e - a)) 0) → Rounding v a e p c₀ d₀ d' (i + 1)
+    rounding_step d d' i h w q =
+        let c = c₀ + i in
+        let z : c₀ + (i + 1) ≡ c₀ + i + 1 = omega arith in
         let l : List ℕ = slice a e v in
         let len : length l ≡ e - a = length-slice a e v hv in
         let x = get_or v (a + i) 0 in
@@ -134,23 +135,21 @@ module _ (v : List ℕ) (a e p c₀ : ℕ) (d₀ : List ℕ) where
         let nx : drop i (cyclic l) ≡ record { from = x; to = y } ∷ drop (i + 1) (cyclic l) = next_pair l i 0 (omega arith) ∙ ap₂ (λ s t. record { from = s; to = t } ∷ drop (i + 1) (cyclic l)) ex ey in
         record {
           upto = omega arith;
-          count = omega (arith, w.count);
-          left = ap (λ m. m ++ map (run_of p) (drop (i + 1) (cyclic l))) (ap (λ z. laid_runs z (c + 1)) q ∙ laid_more d c p x y (omega (arith, w.count, w.size)))
+          left = ap (λ m. m ++ map (run_of p) (drop (i + 1) (cyclic l))) (ap₂ laid_runs q z ∙ laid_more d c p x y (omega (arith, w.size)))
               ∙ append_assoc (laid_runs d c) (r ∷ []) (map (run_of p) (drop (i + 1) (cyclic l)))
               ∙ ap (λ m. laid_runs d c ++ map (run_of p) m) (sym nx) ∙ w.left;
           size = ap length q ∙ length_run d c p x y ∙ w.size;
         }
 
-    pub rounding_count : (d : List ℕ) (c i : ℕ) → e - a ≤ i → Rounding v a e p c₀ d₀ d c i → c ≡ c₀ + (e - a)
-    rounding_count d c i h w = omega (arith, w.count, w.upto)
-
-    pub rounding_end : (d : List ℕ) (c i : ℕ) → e - a ≤ i → Rounding v a e p c₀ d₀ d c i → laid_runs d c ≡ laid_runs d₀ c₀ ++ map (run_of p) (cyclic (slice a e v))
-    rounding_end d c i h w =
+    pub rounding_end : (d : List ℕ) (i : ℕ) → e - a ≤ i → Rounding v a e p c₀ d₀ d i → laid_runs d (c₀ + (e - a)) ≡ laid_runs d₀ c₀ ++ map (run_of p) (cyclic (slice a e v))
+    rounding_end d i h w =
+        let c = c₀ + (e - a) in
+        let y : e - a ≡ i = omega (arith, w.upto) in
         let z : length (cyclic (slice a e v)) ≤ i = omega (arith, length_cyclic (slice a e v), length-slice a e v hv) in
-        sym (append-nil (laid_runs d c)) ∙ ap (λ m. laid_runs d c ++ map (run_of p) m) (sym (drop_of_length-le (cyclic (slice a e v)) z)) ∙ w.left
+        sym (append-nil (laid_runs d c)) ∙ ap (λ m. laid_runs d c ++ map (run_of p) m) (sym (drop_of_length-le (cyclic (slice a e v)) z)) ∙ ap (λ n. laid_runs d (c₀ + n) ++ map (run_of p) (drop i (cyclic (slice a e v)))) y ∙ w.left
 
-    pub rounding_room : (d : List ℕ) (c i : ℕ) → i < e - a → Rounding v a e p c₀ d₀ d c i → 3 * c + 2 < length d
-    rounding_room d c i h w = omega (arith, w.count, w.size)
+    pub rounding_room : (d : List ℕ) (i : ℕ) → i < e - a → Rounding v a e p c₀ d₀ d i → 3 * (c₀ + i) + 2 < length d
+    rounding_room d i h w = omega (arith, w.size)
 
 -- ---- the loop over the facets of a body
 

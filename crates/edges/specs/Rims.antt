@@ -1,13 +1,13 @@
 -- The keys of edges in rows of two.
-use Rattle.std.specs.Prelude.{◌≡◌, refl, List, [], ◌∷◌, map, ℕ, zero, suc, ◌+◌, ◌-◌, ◌*◌, ◌≤◌, ◌<◌, min, max, length, get_or, set}
-use Rattle.std.proofs.Common.{sym, ap, ap₂, ◌∙◌, subst, arith, length-set, get_or-set_same, get_or-set_other, ext_get_or}
+use Rattle.std.specs.Prelude.{◌≡◌, refl, List, [], ◌∷◌, ℕ, suc, ◌+◌, ◌*◌, ◌≤◌, ◌<◌, min, max, length, get_or, set}
+use Rattle.std.proofs.Common.{sym, ap, ap₂, ◌∙◌, arith, length-set, get_or-set_same, get_or-set_other, ext_get_or}
 use Rattle.std.proofs.Math.Decide.{dec_lt}
 use Rattle.std.proofs.lemmas.List.{length-map}
 use Rattle.std.proofs.Math.Seq.{slice, slice-cons, slice_empty}
 use Rattle.sums.proofs.KeyLaws.{get_d_map_lt}
 use Rattle.keys.specs.Rows.{Starts, row, rows, row_at, length_rows}
 use Rattle.bodies.specs.Fusing.{Run, no_run, edge_keys}
-use Rattle.edges.specs.Laid.{laid_run, laid_runs, length_laid, laid_at}
+use Rattle.edges.specs.Laid.{laid_runs, length_laid, laid_at}
 
 pub lower_is : (x y : ℕ) → x < y → x ≡ min x y
 lower_is x y h = omega arith

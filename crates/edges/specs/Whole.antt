@@ -1,6 +1,7 @@
 -- The steps of `check_edges`, one after another.
-use Rattle.std.specs.Prelude.{◌≡◌, refl, List, ◌++◌, ℕ, ◌+◌, ◌*◌, ◌≤◌, ◌<◌, length, drop}
+use Rattle.std.specs.Prelude.{◌≡◌, List, ◌++◌, ℕ, ◌*◌, ◌≤◌, ◌<◌, length, drop}
 use Rattle.std.proofs.Common.{sym, ap, ◌∙◌, subst, arith, length-append, length-drop}
+use Rattle.refusal.specs.Outcome.{Outcome}
 use Rattle.sums.specs.Keys.{order}
 use Rattle.keys.specs.Rows.{Starts, rows}
 use Rattle.keys.specs.Sized.{Ordered, sorted_ordered, many_order}
@@ -36,7 +37,7 @@ module _ (v starts fl d₀ k₀ s₀ o₀ e₀ d : List ℕ) (c : ℕ) (room : R
   pub room_ends : c ≤ length e₀
   room_ends = omega (arith, many, room.ends)
 
-  pub edged : (e : List ℕ) (m : Paired) → Edged (laid_runs d c) e m → Edged (row_runs v starts 0 fl) e m
+  pub edged : (e : List ℕ) (m : Outcome Paired) → Edged (laid_runs d c) e m → Edged (row_runs v starts 0 fl) e m
   edged e m w = subst (λ rs. Edged rs e m) made w
 
 pub rims_fine : (d : List ℕ) (c : ℕ) (k s : List ℕ) → Rims d c k s → Starts k s c

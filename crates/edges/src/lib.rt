@@ -12,20 +12,20 @@ ghost use Rattle.keys.specs.Sized.{Ordered};
 ghost use Rattle.bodies.specs.Fusing.{run_of, edge_keys, judge_edge};
 ghost use Rattle.edges.specs.Laid.{laid_runs, put_run, row_runs, Listed};
 ghost use Rattle.edges.specs.Rims.{Rims};
-ghost use Rattle.edges.specs.Pairing.{Edged, Part, Turned, face_of, after_edge};
+ghost use Rattle.edges.specs.Pairing.{Edged, Part, Turned, face_of};
 ghost use Rattle.edges.specs.Whole.{Room};
 
-use refusal::{Refusal, Verdict};
+use refusal::Refusal;
 
 // The walk over the edges: where it is in their order, and how many pairs of facets are met so far.
 #[derive(Clone, Copy)]
 pub struct Paired {
-    pub verdict: Verdict,
     pub at: usize,
     pub pairs: usize,
 }
 
 // One run at place c.
+#[tactic(auto, using(crate::specs::Laid::second_room), unfolding(crate::specs::Laid::put_run))]
 fn put_run(d: &mut [u64], c: usize, p: usize, x: u64, y: u64)
     requires { 3 * c + 2 < length d.old }
     ensures { d.new ≡ put_run d.old c p x y }
@@ -41,16 +41,12 @@ fn face_runs(v: &[u64], a: usize, e: usize, p: usize, d: &mut [u64], c: usize) -
     ensures { (result ≡ c + (e - a)) × (laid_runs d.new result ≡ laid_runs d.old c ++ map (run_of p) (cyclic (slice a e v.now))) }
 {
     let n = e - a;
-    let mut q = c;
-    let mut i = 0;
-    while i < n {
+    for i in 0..n {
         let x = v[a + i];
         let y = v[a + (i + 1) % n];
-        put_run(d, q, p, x, y);
-        q += 1;
-        i += 1;
+        put_run(d, c + i, p, x, y);
     }
-    q
+    c + n
 }
 
 // The runs of all facets of a body. Returns how many.
@@ -59,13 +55,11 @@ fn all_runs(v: &[u64], starts: &[u64], f: usize, faces: &[u64], d: &mut [u64]) -
     ensures { laid_runs d.new result ≡ row_runs v.now starts.now 0 faces.now }
 {
     let mut c = 0;
-    let mut p = 0;
-    while p < faces.len() {
-        let i = faces[p] as usize;
+    for (p, &face) in faces.iter().enumerate() {
+        let i = face as usize;
         let a = starts[i] as usize;
         let e = starts[i + 1] as usize;
         c = face_runs(v, a, e, p, d, c);
-        p += 1;
     }
     c
 }
@@ -101,18 +95,17 @@ fn edge_keys(d: &[u64], c: usize, k: &mut [u64], s: &mut [u64])
     requires { (3 * c ≤ length d.now) × (2 * c ≤ length k.old) × (c < length s.old) }
     ensures { Rims d.now c k.new s.new }
 {
-    let mut x = 0;
-    while x < c {
+    for x in 0..c {
         let a = d[3 * x + 1];
         let b = d[3 * x + 2];
         put_key(k, x, a, b);
         s[x] = (2 * x) as u64;
-        x += 1;
     }
     s[c] = (2 * c) as u64;
 }
 
 // 1 where run x goes to a higher vertex, else 0.
+#[tactic(auto, using(crate::specs::Pairing::rises_yes, crate::specs::Pairing::rises_no))]
 fn rises(d: &[u64], x: usize) -> u64
     requires { 3 * x + 2 < length d.now }
     ensures { result ≡ less (get_or d.now (3 * x + 1) 0) (get_or d.now (3 * x + 2) 0) }
@@ -126,7 +119,8 @@ fn rises(d: &[u64], x: usize) -> u64
 }
 
 // Two runs of one edge: 20 where one facet has both, or both go one way.
-fn judge_edge(d: &[u64], c: usize, a: usize, b: usize) -> Verdict
+#[tactic(auto, using(crate::specs::Pairing::edge_judged))]
+fn judge_edge(d: &[u64], c: usize, a: usize, b: usize) -> Result<(), Refusal>
     requires { (3 * c ≤ length d.now) × (a < c) × (b < c) }
     ensures { heard result tt ≡ judge_edge (laid_runs d.now c) (a ∷ b ∷ []) }
 {
@@ -136,7 +130,15 @@ fn judge_edge(d: &[u64], c: usize, a: usize, b: usize) -> Verdict
 }
 
 // Their facets become a pair.
-fn edge_two(d: &[u64], c: usize, a: usize, b: usize, ends: &mut [u64], y: usize) -> Verdict
+#[tactic(auto, using(crate::specs::Pairing::edge_stored))]
+fn edge_two(
+    d: &[u64],
+    c: usize,
+    a: usize,
+    b: usize,
+    ends: &mut [u64],
+    y: usize,
+) -> Result<(), Refusal>
     requires { (3 * c ≤ length d.now) × (a < c) × (b < c) × (2 * y + 1 < length ends.old) }
     ensures judged { heard result tt ≡ judge_edge (laid_runs d.now c) (a ∷ b ∷ []) }
     ensures stored { ends.new ≡ set (set ends.old (2 * y) (face_of (laid_runs d.now c) a)) (2 * y + 1) (face_of (laid_runs d.now c) b) }
@@ -144,25 +146,6 @@ fn edge_two(d: &[u64], c: usize, a: usize, b: usize, ends: &mut [u64], y: usize)
     ends[2 * y] = d[3 * a];
     ends[2 * y + 1] = d[3 * b];
     judge_edge(d, c, a, b)
-}
-
-// A refusal ends the walk.
-fn after_edge(verdict: Verdict, c: usize, p: usize, y: usize) -> Paired
-    requires { (p + 2 ≤ c) × (y ≤ p) }
-    ensures { result ≡ after_edge verdict c p y }
-{
-    match verdict {
-        Verdict::Fine => Paired {
-            verdict: Verdict::Fine,
-            at: p + 2,
-            pairs: y + 1,
-        },
-        Verdict::Refused(r) => Paired {
-            verdict: Verdict::Refused(r),
-            at: c,
-            pairs: y,
-        },
-    }
 }
 
 // One edge: two facets run it, or it is 20.
@@ -174,7 +157,7 @@ fn edge_run(
     ord: &[u64],
     ends: &mut [u64],
     m: Paired,
-) -> Paired
+) -> Result<Paired, Refusal>
     requires c_in_bounds { (3 * c ≤ length d.now) × Starts k.now s.now c × Ordered k.now s.now c ord.now × (m.at < c) }
     requires part { Part (laid_runs d.now c) (rows k.now s.now c) ends.old m.at m.pairs }
     ensures { Turned (laid_runs d.now c) (rows k.now s.now c) ends.new m.at result }
@@ -185,31 +168,34 @@ fn edge_run(
     if size == 2 {
         let a = ord[p] as usize;
         let b = ord[p + 1] as usize;
-        let verdict = edge_two(d, c, a, b, ends, y);
-        return after_edge(verdict, c, p, y);
+        edge_two(d, c, a, b, ends, y)?;
+        return Ok(Paired {
+            at: p + 2,
+            pairs: y + 1,
+        });
     }
-    Paired {
-        verdict: Verdict::Refused(refusal::refuse(20)),
-        at: c,
-        pairs: y,
-    }
+    Err(refusal::refuse(20))
 }
 
 // All edges in the order of their keys.
-fn walk_edges(d: &[u64], c: usize, k: &[u64], s: &[u64], ord: &[u64], ends: &mut [u64]) -> Paired
+fn walk_edges(
+    d: &[u64],
+    c: usize,
+    k: &[u64],
+    s: &[u64],
+    ord: &[u64],
+    ends: &mut [u64],
+) -> Result<Paired, Refusal>
     requires c_in_bounds { (3 * c ≤ length d.now) × Starts k.now s.now c × Ordered k.now s.now c ord.now }
     requires c_value { (rows k.now s.now c ≡ edge_keys (laid_runs d.now c)) × (c ≤ length ends.old) }
     ensures { Edged (laid_runs d.now c) ends.new result }
 {
-    let mut m = Paired {
-        verdict: Verdict::Fine,
-        at: 0,
-        pairs: 0,
-    };
+    let mut m = Paired { at: 0, pairs: 0 };
+    // The place jumps over the two runs of an edge, so this is no counting loop.
     while m.at < c {
-        m = edge_run(d, c, k, s, ord, ends, m);
+        m = edge_run(d, c, k, s, ord, ends, m)?;
     }
-    m
+    Ok(m)
 }
 
 // The edges of the body whose facets are listed: 20, or the pairs of facets, by their places in the body, in the order of edges.
@@ -223,7 +209,7 @@ pub fn check_edges(
     s: &mut [u64],
     ord: &mut [u64],
     ends: &mut [u64],
-) -> Paired
+) -> Result<Paired, Refusal>
     requires listed { Listed v.now starts.now f faces.now }
     requires room { Room v.now starts.now faces.now d.old k.old s.old ord.old ends.old }
     ensures { Edged (row_runs v.now starts.now 0 faces.now) ends.new result }

@@ -4,11 +4,11 @@
 ghost use Rattle.std.specs.Prelude.{◌≡◌, ◌<◌};
 ghost use Rattle.ended.specs.Ends.{stopped, answered, told_by};
 
-use refusal::{Refusal, Verdict};
+use refusal::Refusal;
 
 #[derive(Clone, Copy)]
 pub struct Ended {
-    pub verdict: Verdict,
+    pub verdict: Result<(), Refusal>,
     pub bytes: usize,
 }
 
@@ -16,7 +16,7 @@ pub fn stop(r: Refusal) -> Ended
     ensures { result ≡ stopped r }
 {
     Ended {
-        verdict: Verdict::Refused(r),
+        verdict: Err(r),
         bytes: 0,
     }
 }
@@ -25,18 +25,18 @@ pub fn answer(n: usize) -> Ended
     ensures { result ≡ answered n }
 {
     Ended {
-        verdict: Verdict::Fine,
+        verdict: Ok(()),
         bytes: n,
     }
 }
 
 // What an entry point hands back: the number, and 256 times the bytes.
-pub fn told_by(v: Verdict, n: usize) -> u64
+pub fn told_by(v: Result<(), Refusal>, n: usize) -> u64
     requires { n < 72057594037927936 }
     ensures { result ≡ told_by v n }
 {
     match v {
-        Verdict::Fine => 256 * (n as u64),
-        Verdict::Refused(r) => r.number,
+        Ok(()) => 256 * (n as u64),
+        Err(r) => r.number,
     }
 }

@@ -1,16 +1,13 @@
 -- The solids of a list of cells, one after another, and how they lie in lent slices. Definitions only.
-use Rattle.std.specs.Prelude.{◌≡◌, List, [], ◌∷◌, ◌++◌, map, ℕ, ◌+◌, ◌*◌, ◌≤◌, length, take, drop, Float}
+use Rattle.std.specs.Prelude.{◌≡◌, List, [], ◌∷◌, ◌++◌, map, ℕ, ◌+◌, ◌*◌, ◌≤◌, length, take, drop, Float, Ok, Err}
 use Rattle.std.proofs.lemmas.List.Edits.{sets}
-use Rattle.refusal.specs.declared.Verdict.{Verdict}
-use Rattle.refusal.specs.Outcome.{Outcome, ok, refused, each, heard, verdict_of}
+use Rattle.refusal.specs.Outcome.{Outcome, each, heard, verdict_of}
 use Rattle.space.specs.declared.Precision.{Precision}
 use Rattle.space.specs.Shapes.{Cell, Solid, corners}
 use Rattle.polygon.specs.Memory.{floats_of}
 use Rattle.room.specs.Rooms.{cell_at, counts_at, Within}
 use Rattle.sums.specs.Sum.{sum}
 use Rattle.stack.specs.Stacks.{Front}
-use Rattle.indexed.specs.declared.Counted.{Counted}
-use Rattle.indexed.specs.declared.Counted.TheVariants.{Made, Refused}
 use Rattle.indexed.specs.Stored.{flat}
 use Rattle.solid_check.specs.Check.{solid_at}
 use Rattle.built.specs.Built.{built}
@@ -54,7 +51,7 @@ solids_at p i c (m ∷ ms) [] = []
 solids_at p i c (m ∷ ms) (n ∷ zs) = solid_at p m i c n ∷ solids_at (drop (3 * m) p) (drop (total (take n c)) i) (drop n c) ms zs
 
 -- what a verdict and the slices say, of so many solids
-unfoldable pub solids_told : Verdict → ℕ → List Float → List ℕ → List ℕ → List ℕ → List ℕ → Outcome (List Solid)
+unfoldable pub solids_told : Outcome Unit → ℕ → List Float → List ℕ → List ℕ → List ℕ → List ℕ → Outcome (List Solid)
 solids_told v k p i c z m = heard v (solids_at p i c (take k m) (take k z))
 
 -- k solids stand at the front of the slices: the floats of their points, the places, the numbers of corners and of faces, and the
@@ -72,12 +69,12 @@ pub record Lain (room k : ℕ) (ss : List Solid) (p : List Float) (i c z m : Lis
   pub fit : length (solids_places ss) ≤ room
 
 -- a verdict tells an outcome, and the k solids of an answer stand in the slices; after a refusal they are free
-pub record Finished (room k : ℕ) (o : Outcome (List Solid)) (v : Verdict) (p : List Float) (i c z m : List ℕ) : Type 0 where
+pub record Finished (room k : ℕ) (o : Outcome (List Solid)) (v : Outcome Unit) (p : List Float) (i c z m : List ℕ) : Type 0 where
   pub is : v ≡ verdict_of o
-  pub lain : (ss : List Solid) → o ≡ ok ss → Lain room k ss p i c z m
+  pub lain : (ss : List Solid) → o ≡ Ok ss → Lain room k ss p i c z m
 
 -- the slices hold what the verdict says
-abbrev pub Holding : ℕ → ℕ → Verdict → List Float → List ℕ → List ℕ → List ℕ → List ℕ → Type 0
+abbrev pub Holding : ℕ → ℕ → Outcome Unit → List Float → List ℕ → List ℕ → List ℕ → List ℕ → Type 0
 Holding room k v p i c z m = Finished room k (solids_told v k p i c z m) v p i c z m
 
 -- the slices have a place for the solids of every list that fits the room
@@ -97,6 +94,6 @@ pub record Space (d : List Float) (o : ℕ) (ns : List ℕ) (f n c : ℕ) (s : L
   pub places : q + c ≤ length i
 
 -- after a cell: how many points it has, its points behind p floats, and its places behind q others; a refusal leaves the lengths alone
-unfoldable pub Behind : Outcome Solid → ℕ → ℕ → List Float → List ℕ → List Float → List ℕ → Counted → Type 0
-Behind (ok s) p q s₀ i₀ s₁ i₁ r = (r ≡ Made (length s.points)) × (s₁ ≡ sets s₀ p (floats_of s.points)) × (i₁ ≡ sets i₀ q (flat s.faces))
-Behind (refused x) p q s₀ i₀ s₁ i₁ r = (r ≡ Refused x) × (length s₁ ≡ length s₀) × (length i₁ ≡ length i₀)
+unfoldable pub Behind : Outcome Solid → ℕ → ℕ → List Float → List ℕ → List Float → List ℕ → Outcome ℕ → Type 0
+Behind (Ok s) p q s₀ i₀ s₁ i₁ r = (r ≡ Ok (length s.points)) × (s₁ ≡ sets s₀ p (floats_of s.points)) × (i₁ ≡ sets i₀ q (flat s.faces))
+Behind (Err x) p q s₀ i₀ s₁ i₁ r = (r ≡ Err x) × (length s₁ ≡ length s₀) × (length i₁ ≡ length i₀)

@@ -1,16 +1,14 @@
 -- Laws of the finishing of a list of cells, in the words of the code.
 use Rattle.std.proofs.Math.Path.{◌≡◌, refl, sym, ap, subst}
-use Rattle.std.proofs.Common.{ap₂, ◌∙◌, append_assoc, append-nil, arith, add-one, length-append, length-take, length-drop, length-set, take-append-drop, drop-drop, take-take, length-take-le}
-use Rattle.std.specs.Prelude.{List, [], ◌∷◌, ◌++◌, map, ℕ, suc, ◌+◌, ◌-◌, ◌*◌, ◌≤◌, ◌<◌, set, get_or, Float}
+use Rattle.std.proofs.Common.{ap₂, ◌∙◌, append_assoc, append-nil, arith, length-append, length-drop, take-append-drop, drop-drop, take-take, length-take-le}
+use Rattle.std.specs.Prelude.{List, [], ◌∷◌, ◌++◌, map, ℕ, ◌+◌, ◌-◌, ◌*◌, ◌≤◌, ◌<◌, set, get_or, Float, Ok, Err}
 use Rattle.std.proofs.Math.ListN.{length, take, drop}
 use Rattle.std.proofs.lemmas.List.{length-map, drop-append-le}
 use Rattle.std.proofs.lemmas.List.Edits.{sets, sets-eq}
 use Rattle.std.proofs.Math.Seq.{length-sets}
 use Rattle.refusal.specs.declared.Refusal.{Refusal}
-use Rattle.refusal.specs.declared.Verdict.{Verdict}
-use Rattle.refusal.specs.declared.Verdict.TheVariants as D
-use Rattle.refusal.specs.Outcome.{Outcome, ok, refused, then, each, heard, verdict_of}
-use Rattle.refusal.specs.Laws.{each_go, each_stop, each_end, same_ok, never_ok, then_ok}
+use Rattle.refusal.specs.Outcome.{Outcome, then, each, heard, verdict_of}
+use Rattle.refusal.specs.Laws.{each_go, each_stop, each_end, same_ok, never_ok}
 use Rattle.space.specs.declared.Precision.{Precision}
 use Rattle.space.specs.Shapes.{Cell, Solid, corners, all_corners}
 use Rattle.polygon.specs.Memory.{floats_of}
@@ -20,15 +18,11 @@ use Rattle.sums.specs.Sum.{sum}
 use Rattle.stack.specs.declared.Stack.{Stack}
 use Rattle.stack.specs.Stacks.{cells_floats, cells_counts, cells_sizes, cells_at, stack_of, list_at, Lies, Holds, Front}
 use Rattle.stack.specs.Laws.{Numbers, numbers, counts_snoc, all_corners_cons, sizes_snoc}
-use Rattle.stack.specs.Steps.{Standing, standing}
-use Rattle.indexed.specs.declared.Counted.{Counted}
-use Rattle.indexed.specs.declared.Counted.TheVariants as C
-use Rattle.indexed.specs.Indexed.{indexed}
 use Rattle.indexed.specs.Stored.{flat, Stored, Fits}
 use Rattle.built.specs.Built.{built, Bench}
 use Rattle.built.specs.Laws.{built_lengths}
 use Rattle.finish.specs.Finish.{finish, total, solids_floats, solids_places, solids_counts, solids_sizes, solids_marks, solids_at, solids_told, Lain, Finished, Holding, Shelf, Space, Behind}
-use Rattle.finish.specs.Lists.{total_cell, total_flat, floats_both, counts_both, sizes_both, corners_both, one_floats, one_counts, here_size, here_seat, here_listed, here_counts, here_cell, here_room, here_within, here_corners, here_wide, none, points_more, places_more, faces_more, numbers_more, marks_more, length_marks, solids_stored}
+use Rattle.finish.specs.Lists.{total_cell, total_flat, floats_both, counts_both, corners_both, one_floats, one_counts, here_size, here_seat, here_listed, here_counts, here_cell, here_room, here_within, here_corners, here_wide, none, points_more, places_more, faces_more, numbers_more, marks_more, length_marks, solids_stored}
 
 -- ---- how many corners n faces have: c so far, of j faces
 
@@ -81,10 +75,10 @@ module _ (t : Precision) (d : List Float) (o : ℕ) (ns : List ℕ) (f n c : ℕ
   abbrev cell : Cell
   cell = cell_at d o (counts_at ns f n)
 
-  behind_by : (b : Outcome Solid) → built t cell ≡ b → (s' : List Float) (i' : List ℕ) (r : Counted) → Stored b (take k (drop p s)) (take c (drop q i)) s' i' r →
+  behind_by : (b : Outcome Solid) → built t cell ≡ b → (s' : List Float) (i' : List ℕ) (r : Outcome ℕ) → Stored b (take k (drop p s)) (take c (drop q i)) s' i' r →
       Behind b p q s i (take p s ++ (s' ++ drop k (drop p s))) (take q i ++ (i' ++ drop c (drop q i))) r
   unfolding Stored Behind
-  behind_by (ok b) e s' i' r h =
+  behind_by (Ok b) e s' i' r h =
       let z = built_lengths t d o (counts_at ns f n) b e in
       let x : length (floats_of b.points) ≤ k = omega (arith, length_floats_of b.points, z.1, S.many, w) in
       let y : length (flat b.faces) ≤ c = omega (arith, total_flat b.faces, ap total z.0, total_at d o (counts_at ns f n), S.many) in (
@@ -92,9 +86,9 @@ module _ (t : Precision) (d : List Float) (o : ℕ) (ns : List ℕ) (f n c : ℕ
         ap (λ v. take p s ++ (v ++ drop k (drop p s))) h.1 ∙ part_set s p k (floats_of b.points) g x,
         ap (λ v. take q i ++ (v ++ drop c (drop q i))) h.2 ∙ part_set i q c (flat b.faces) S.places y,
       )
-  behind_by (refused x) e s' i' r h = (h.0, part_size s p k s' g h.1, part_size i q c i' S.places h.2)
+  behind_by (Err x) e s' i' r h = (h.0, part_size s p k s' g h.1, part_size i q c i' S.places h.2)
 
-  behind_built : (s' : List Float) (i' : List ℕ) (r : Counted) → Stored (built t (cell_at d o (counts_at ns f n))) (take k (drop p s)) (take c (drop q i)) s' i' r →
+  behind_built : (s' : List Float) (i' : List ℕ) (r : Outcome ℕ) → Stored (built t (cell_at d o (counts_at ns f n))) (take k (drop p s)) (take c (drop q i)) s' i' r →
       Behind (built t (cell_at d o (counts_at ns f n))) p q s i (take p s ++ (s' ++ drop k (drop p s))) (take q i ++ (i' ++ drop c (drop q i))) r
   behind_built s' i' r h = behind_by (built t cell) refl s' i' r h
 
@@ -125,7 +119,7 @@ module _ {d : List Float} {o : ℕ} {ns : List ℕ} {f n c : ℕ} {s : List Floa
   pub places_kept : (i' : List ℕ) → length i' ≡ length (take y (drop q i)) → length (take q i ++ (i' ++ drop y (drop q i))) ≡ length i
   places_kept i' e = part_size i q y i' (omega (arith, ey, S.places)) e
 
-  pub part_behind : (t : Precision) (s' : List Float) (i' : List ℕ) (r : Counted) → Stored (built t (cell_at d o (counts_at (take x (drop f ns)) 0 n))) (take k (drop p s)) (take y (drop q i)) s' i' r →
+  pub part_behind : (t : Precision) (s' : List Float) (i' : List ℕ) (r : Outcome ℕ) → Stored (built t (cell_at d o (counts_at (take x (drop f ns)) 0 n))) (take k (drop p s)) (take y (drop q i)) s' i' r →
       Behind (built t (cell_at d o (counts_at ns f n))) p q s i (take p s ++ (s' ++ drop k (drop p s))) (take q i ++ (i' ++ drop y (drop q i))) r
   part_behind t s' i' r h =
       let u : y ≡ c = omega (arith, ey) in
@@ -292,8 +286,8 @@ module _ {t : Precision} {cs : List Cell} {s₀ : List Float} {i₀ m₀ : List 
         places = omega (arith, e, A.held, S.places, k.1);
       }
 
-  counted : Numbers room (stack_of (ok cs))
-  counted = numbers room (ok cs) (stack_of (ok cs)) d ns z (record { is = refl; lies = λ l e. subst (λ l. Lies room l d ns z) (same_ok e) L })
+  counted : Numbers room (stack_of (Ok cs))
+  counted = numbers room (Ok cs) (stack_of (Ok cs)) d ns z (record { is = refl; lies = λ l e. subst (λ l. Lies room l d ns z) (same_ok e) L })
 
   finishing_mark : j < length cs → Shelf room s₀ i₀ m₀ → j < length m
   unfolding stack_of
@@ -301,16 +295,16 @@ module _ {t : Precision} {cs : List Cell} {s₀ : List Float} {i₀ m₀ : List 
 
   -- ---- one turn
 
-  built_of : (b : Outcome Solid) (s' : List Float) (i' : List ℕ) (r : Counted) (k : ℕ) → Behind b p q s i s' i' r → r ≡ C.Made k →
-      (x : Solid) × (b ≡ ok x) × (k ≡ length x.points) × (s' ≡ sets s p (floats_of x.points)) × (i' ≡ sets i q (flat x.faces))
+  built_of : (b : Outcome Solid) (s' : List Float) (i' : List ℕ) (r : Outcome ℕ) (k : ℕ) → Behind b p q s i s' i' r → r ≡ Ok k →
+      (x : Solid) × (b ≡ Ok x) × (k ≡ length x.points) × (s' ≡ sets s p (floats_of x.points)) × (i' ≡ sets i q (flat x.faces))
   unfolding Behind
-  built_of (ok x) s' i' r k h e = (x, refl, (let g = h.0 in cc), h.1, h.2)
-  built_of (refused y) s' i' r k h e = absurd (let g = h.0 in let w : ◌≡◌ {A = ℕ} 0 1 = cc in omega arith)
+  built_of (Ok x) s' i' r k h e = (x, refl, (let g = h.0 in cc), h.1, h.2)
+  built_of (Err y) s' i' r k h e = absurd (let g = h.0 in let w : ◌≡◌ {A = ℕ} 0 1 = cc in omega arith)
 
-  not_of : (b : Outcome Solid) (s' : List Float) (i' : List ℕ) (r : Counted) (y : Refusal) → Behind b p q s i s' i' r → r ≡ C.Refused y → (b ≡ refused y) × (length s' ≡ length s) × (length i' ≡ length i)
+  not_of : (b : Outcome Solid) (s' : List Float) (i' : List ℕ) (r : Outcome ℕ) (y : Refusal) → Behind b p q s i s' i' r → r ≡ Err y → (b ≡ Err y) × (length s' ≡ length s) × (length i' ≡ length i)
   unfolding Behind
-  not_of (ok x) s' i' r y h e = absurd (let g = h.0 in let w : ◌≡◌ {A = ℕ} 0 1 = cc in omega arith)
-  not_of (refused x) s' i' r y h e = ((let g = h.0 in let w : x ≡ y = cc in ap refused w), h.1, h.2)
+  not_of (Ok x) s' i' r y h e = absurd (let g = h.0 in let w : ◌≡◌ {A = ℕ} 0 1 = cc in omega arith)
+  not_of (Err x) s' i' r y h e = ((let g = h.0 in let w : x ≡ y = cc in ap Err w), h.1, h.2)
 
   -- a store behind what was stored
   more : {A : Type 0} (l₀ l l' x y xy : List A) (k : ℕ) → l ≡ sets l₀ 0 x → length x ≡ k → l' ≡ sets l k y → xy ≡ x ++ y → l' ≡ sets l₀ 0 xy
@@ -318,13 +312,13 @@ module _ {t : Precision} {cs : List Cell} {s₀ : List Float} {i₀ m₀ : List 
       let u : k ≡ 0 + length x = omega (arith, n) in
       g ∙ ap (λ v. sets v k y) e ∙ ap (λ v. sets (sets l₀ 0 x) v y) u ∙ sets_append l₀ 0 x y ∙ ap (sets l₀ 0) (sym w)
 
-  module _ (h : j < length cs) (c : ℕ) (e : c ≡ total (counts_at ns f (get_or z j 0))) (s' : List Float) (i' : List ℕ) (r : Counted) (B : Behind (built t (cell_at d o (counts_at ns f (get_or z j 0)))) p q s i s' i' r) where
-    pub finishing_few : (k : ℕ) → r ≡ C.Made k → k ≤ c
+  module _ (h : j < length cs) (c : ℕ) (e : c ≡ total (counts_at ns f (get_or z j 0))) (s' : List Float) (i' : List ℕ) (r : Outcome ℕ) (B : Behind (built t (cell_at d o (counts_at ns f (get_or z j 0)))) p q s i s' i' r) where
+    pub finishing_few : (k : ℕ) → r ≡ Ok k → k ≤ c
     finishing_few k g =
         let x = built_of (built t (cell_at d o (counts_at ns f (get_or z j 0)))) s' i' r k B g in
         omega (arith, x.2, e, total_at d o (counts_at ns f (get_or z j 0)), (built_lengths t d o (counts_at ns f (get_or z j 0)) x.0 x.1).1)
 
-    pub finishing_sums : (k : ℕ) → r ≡ C.Made k → Shelf room s₀ i₀ m₀ → Sums d ns s₀ i₀ m o f p q j (get_or z j 0) c k
+    pub finishing_sums : (k : ℕ) → r ≡ Ok k → Shelf room s₀ i₀ m₀ → Sums d ns s₀ i₀ m o f p q j (get_or z j 0) c k
     finishing_sums k g S =
         let A = finishing_ahead h in
         let K = finishing_space h c e S in
@@ -336,7 +330,7 @@ module _ {t : Precision} {cs : List Cell} {s₀ : List Float} {i₀ m₀ : List 
           mark = finishing_mark h S;
         }
 
-    pub finishing_step : (k : ℕ) (m' : List ℕ) → r ≡ C.Made k → m' ≡ set m j k → Finishing t cs s₀ i₀ m₀ s' i' m' (o + (13 * get_or z j 0 + 3 * c)) (f + get_or z j 0) (p + 3 * k) (q + c) (j + 1)
+    pub finishing_step : (k : ℕ) (m' : List ℕ) → r ≡ Ok k → m' ≡ set m j k → Finishing t cs s₀ i₀ m₀ s' i' m' (o + (13 * get_or z j 0 + 3 * c)) (f + get_or z j 0) (p + 3 * k) (q + c) (j + 1)
     finishing_step k m' g w =
         let A = finishing_ahead h in
         let x = built_of (built t (cell_at d o (counts_at ns f (get_or z j 0)))) s' i' r k B g in
@@ -347,7 +341,7 @@ module _ {t : Precision} {cs : List Cell} {s₀ : List Float} {i₀ m₀ : List 
         let nc : length b.faces ≡ length A.cell = sym (length-map b.faces length) ∙ ap length fs ∙ length_cell_counts A.cell in
         let u : c ≡ corners 0 A.cell = e ∙ ap total A.counts ∙ total_cell A.cell in
         let n : get_or z j 0 ≡ length A.cell = sym A.size in
-        let gone : built t A.cell ≡ ok b = ap (built t) (sym is) ∙ x.1 in
+        let gone : built t A.cell ≡ Ok b = ap (built t) (sym is) ∙ x.1 in
         let fl : length (flat b.faces) ≡ c = sym (total_flat b.faces) ∙ ap total le.0 ∙ sym e in
         record {
           done = I.done ++ (A.cell ∷ []);
@@ -370,12 +364,12 @@ module _ {t : Precision} {cs : List Cell} {s₀ : List Float} {i₀ m₀ : List 
           few = omega (arith, I.few, finishing_few k g);
         }
 
-    pub finishing_stop : (y : Refusal) → r ≡ C.Refused y → (finish t cs ≡ refused y) × (length s' ≡ length s₀) × (length i' ≡ length i₀)
+    pub finishing_stop : (y : Refusal) → r ≡ Err y → (finish t cs ≡ Err y) × (length s' ≡ length s₀) × (length i' ≡ length i₀)
     finishing_stop y g =
         let A = finishing_ahead h in
         let x = not_of (built t (cell_at d o (counts_at ns f (get_or z j 0)))) s' i' r y B g in
         let k = finishing_sizes in
-        let gone : built t A.cell ≡ refused y = ap (built t) (sym A.is) ∙ x.0 in
+        let gone : built t A.cell ≡ Err y = ap (built t) (sym A.is) ∙ x.0 in
         (sym I.left ∙ ap (each (built t) I.solids) A.first ∙ each_stop (built t) I.solids A.cell A.after y gone, x.1 ∙ k.0, x.2 ∙ k.1)
 
   -- ---- the end
@@ -384,7 +378,7 @@ module _ {t : Precision} {cs : List Cell} {s₀ : List Float} {i₀ m₀ : List 
   no_more [] e = refl
   no_more (c ∷ l) e = absurd (omega (arith, e))
 
-  pub finishing_end : length cs ≤ j → finish t cs ≡ ok I.solids
+  pub finishing_end : length cs ≤ j → finish t cs ≡ Ok I.solids
   finishing_end h =
       let e : I.rest ≡ [] = no_more I.rest (omega (arith, ap length I.all, length-append I.done I.rest, I.upto)) in
       sym I.left ∙ ap (each (built t) I.solids) e ∙ each_end (built t) I.solids
@@ -421,44 +415,44 @@ module _ {t : Precision} {cs : List Cell} {s₀ : List Float} {i₀ m₀ : List 
 -- ---- the list that a stack tells
 
 module _ (room : ℕ) (s : Stack) (d : List Float) (ns z : List ℕ) (H : Holds room s d ns z) where
-  pub stands : s.verdict ≡ D.Fine → (list_at s d ns z ≡ ok (cells_at d 0 ns (take s.cells z)))
+  pub stands : s.verdict ≡ Ok tt → (list_at s d ns z ≡ Ok (cells_at d 0 ns (take s.cells z)))
   unfolding list_at heard
   stands e = ap (λ v. heard v (cells_at d 0 ns (take s.cells z))) e
 
-  pub stands_lies : s.verdict ≡ D.Fine → Lies room (cells_at d 0 ns (take s.cells z)) d ns z
+  pub stands_lies : s.verdict ≡ Ok tt → Lies room (cells_at d 0 ns (take s.cells z)) d ns z
   stands_lies e = H.lies _ (stands e)
 
-  pub stands_many : s.verdict ≡ D.Fine → s.cells ≡ length (cells_at d 0 ns (take s.cells z))
+  pub stands_many : s.verdict ≡ Ok tt → s.cells ≡ length (cells_at d 0 ns (take s.cells z))
   unfolding stack_of
   stands_many e = ap (λ x. x.cells) (H.is ∙ ap stack_of (stands e))
 
 module _ (t : Precision) (room : ℕ) (s : Stack) (d : List Float) (ns z : List ℕ) (H : Holds room s d ns z) where
   -- it was refused before
-  pub finished_before : (r : Refusal) (p : List Float) (i m : List ℕ) → s.verdict ≡ D.Refused r → Finished room s.cells (then (list_at s d ns z) (finish t)) s.verdict p i ns z m
+  pub finished_before : (r : Refusal) (p : List Float) (i m : List ℕ) → s.verdict ≡ Err r → Finished room s.cells (then (list_at s d ns z) (finish t)) s.verdict p i ns z m
   unfolding list_at heard verdict_of
   finished_before r p i m e =
-      let o : then (list_at s d ns z) (finish t) ≡ refused r = ap (λ v. then (heard v (cells_at d 0 ns (take s.cells z))) (finish t)) e in
+      let o : then (list_at s d ns z) (finish t) ≡ Err r = ap (λ v. then (heard v (cells_at d 0 ns (take s.cells z))) (finish t)) e in
       record { is = e ∙ ap verdict_of (sym o); lain = λ ss h. never_ok (sym o ∙ h) }
 
-  module _ (v : s.verdict ≡ D.Fine) where
+  module _ (v : s.verdict ≡ Ok tt) where
     goes : then (list_at s d ns z) (finish t) ≡ finish t (cells_at d 0 ns (take s.cells z))
     goes = ap (λ o. then o (finish t)) (stands room s d ns z H v)
 
-    pub finished_stop : (r : Refusal) (p : List Float) (i m : List ℕ) → finish t (cells_at d 0 ns (take s.cells z)) ≡ refused r →
-        Finished room s.cells (then (list_at s d ns z) (finish t)) (D.Refused r) p i ns z m
+    pub finished_stop : (r : Refusal) (p : List Float) (i m : List ℕ) → finish t (cells_at d 0 ns (take s.cells z)) ≡ Err r →
+        Finished room s.cells (then (list_at s d ns z) (finish t)) (Err r) p i ns z m
     unfolding verdict_of
     finished_stop r p i m e = record { is = ap verdict_of (sym (goes ∙ e)); lain = λ ss h. never_ok (sym (goes ∙ e) ∙ h) }
 
-    pub finished_end : (ss : List Solid) (p : List Float) (i m : List ℕ) → finish t (cells_at d 0 ns (take s.cells z)) ≡ ok ss → Lain room s.cells ss p i ns z m →
-        Finished room s.cells (then (list_at s d ns z) (finish t)) D.Fine p i ns z m
+    pub finished_end : (ss : List Solid) (p : List Float) (i m : List ℕ) → finish t (cells_at d 0 ns (take s.cells z)) ≡ Ok ss → Lain room s.cells ss p i ns z m →
+        Finished room s.cells (then (list_at s d ns z) (finish t)) (Ok tt) p i ns z m
     unfolding verdict_of
     finished_end ss p i m e l = record { is = ap verdict_of (sym (goes ∙ e)); lain = λ x h. subst (λ x. Lain room s.cells x p i ns z m) (same_ok (sym (goes ∙ e) ∙ h)) l }
 
 -- the slices hold the solids of the outcome
-pub told_is : (room k : ℕ) (o : Outcome (List Solid)) (v : Verdict) (p : List Float) (i c z m : List ℕ) → Finished room k o v p i c z m → solids_told v k p i c z m ≡ o
+pub told_is : (room k : ℕ) (o : Outcome (List Solid)) (v : Outcome Unit) (p : List Float) (i c z m : List ℕ) → Finished room k o v p i c z m → solids_told v k p i c z m ≡ o
 unfolding solids_told heard verdict_of
-told_is room k (ok ss) v p i c z m F = ap (λ v. heard v (solids_at p i c (take k m) (take k z))) F.is ∙ ap ok (solids_stored room k ss p i c z m (F.lain ss refl))
-told_is room k (refused r) v p i c z m F = ap (λ v. heard v (solids_at p i c (take k m) (take k z))) F.is
+told_is room k (Ok ss) v p i c z m F = ap (λ v. heard v (solids_at p i c (take k m) (take k z))) F.is ∙ ap Ok (solids_stored room k ss p i c z m (F.lain ss refl))
+told_is room k (Err r) v p i c z m F = ap (λ v. heard v (solids_at p i c (take k m) (take k z))) F.is
 
-pub holding : (room k : ℕ) (o : Outcome (List Solid)) (v : Verdict) (p : List Float) (i c z m : List ℕ) → Finished room k o v p i c z m → Holding room k v p i c z m
+pub holding : (room k : ℕ) (o : Outcome (List Solid)) (v : Outcome Unit) (p : List Float) (i c z m : List ℕ) → Finished room k o v p i c z m → Holding room k v p i c z m
 holding room k o v p i c z m F = subst (λ x. Finished room k x v p i c z m) (sym (told_is room k o v p i c z m F)) F

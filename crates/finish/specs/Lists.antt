@@ -6,7 +6,6 @@ use mathlib.Core.List.{List, [], ◌∷◌, ◌++◌, append_assoc, append-nil, 
 use Rattle.std.proofs.Math.ListN.{length}
 use Rattle.std.proofs.lemmas.List.{length-map, get_or_at}
 use Rattle.std.proofs.lemmas.List.Edits.{sets, sets-eq}
-use Rattle.refusal.specs.Outcome.{ok}
 use Rattle.space.specs.declared.Point3.{Point3}
 use Rattle.space.specs.Shapes.{Cell, Solid, corners, all_corners}
 use Rattle.polygon.specs.Memory.{floats_of, points_at}

@@ -10,8 +10,7 @@ ghost use Rattle.stack.specs.Stacks.{list_at, Holds};
 ghost use Rattle.built.specs.Built.{built, Bench};
 ghost use Rattle.finish.specs.Finish.{finish, total, Finished, Shelf, Space, Behind};
 
-use indexed::Counted;
-use refusal::Verdict;
+use refusal::Refusal;
 use space::Precision;
 use stack::Stack;
 
@@ -21,10 +20,8 @@ pub fn corners_of(counts: &[u64], first: usize, n: usize, most: usize) -> usize
     ensures { result ≡ total (counts_at counts.now first n) }
 {
     let mut c = 0;
-    let mut j = 0;
-    while j < n {
+    for j in 0..n {
         c += counts[first + j] as usize;
-        j += 1;
     }
     c
 }
@@ -49,7 +46,7 @@ fn finish_cell(
     work: &mut [u64],
     nodes: &mut [u64],
     cuts: &mut [u64],
-) -> Counted
+) -> Result<usize, Refusal>
     requires space { Space d.now o counts.now f n c points.old p places.old q }
     requires bench { Bench c n ends.old head.old next.old seen.old work.old nodes.old cuts.old }
     ensures { Behind (built t (cell_at d.now o (counts_at counts.now f n))) p q points.old places.old points.new places.new result }
@@ -92,41 +89,28 @@ pub fn finish_cells(
     work: &mut [u64],
     nodes: &mut [u64],
     cuts: &mut [u64],
-) -> Verdict
+) -> Result<(), Refusal>
     requires holds { Holds limit s d.now counts.now sizes.now × Shelf limit points.old places.old marks.old }
     requires bench { Bench limit limit ends.old head.old next.old seen.old work.old nodes.old cuts.old }
     ensures { Finished limit s.cells (then (list_at s d.now counts.now sizes.now) (finish t)) result points.new places.new counts.now sizes.now marks.new }
 {
-    let v = s.verdict;
-    let many = s.cells;
-    let Verdict::Fine = v else {
-        return v;
-    };
+    s.verdict?;
     let mut o = 0;
     let mut f = 0;
     let mut p = 0;
     let mut q = 0;
-    let mut j = 0;
-    while j < many {
+    for j in 0..s.cells {
         let n = sizes[j] as usize;
         let c = corners_of(counts, f, n, limit);
-        let made = finish_cell(
+        let m = finish_cell(
             t, d, o, counts, f, n, c, points, p, places, q, ends, head, next, seen, work, nodes,
             cuts,
-        );
-        match made {
-            Counted::Refused(e) => {
-                return Verdict::Refused(e);
-            }
-            Counted::Made(m) => {
-                marks[j] = m as u64;
-                o += room::PLANE * n + 3 * c;
-                f += n;
-                p += 3 * m;
-                q += c;
-                j += 1;
-            }
-        }
+        )?;
+        marks[j] = m as u64;
+        o += room::PLANE * n + 3 * c;
+        f += n;
+        p += 3 * m;
+        q += c;
     }
-    Verdict::Fine
+    Ok(())
 }

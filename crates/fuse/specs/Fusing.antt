@@ -1,28 +1,26 @@
 -- Fusing as one call: the facets meet, the cells of each body connect, and the bodies are listed.
-use Rattle.std.specs.Prelude.{◌≡◌, refl, ℕ, suc, ◌≤◌, Float}
+use Rattle.std.specs.Prelude.{◌≡◌, refl, ℕ, suc, ◌≤◌, Float, Ok, Err}
 use Rattle.std.proofs.Math.Path.{sym, ap, subst}
 use Rattle.std.proofs.Common.{◌∙◌, arith}
 use mathlib.Core.List.{List, [], ◌∷◌}
 use Rattle.std.proofs.Math.ListN.{length}
 use Rattle.refusal.specs.declared.Refusal.{Refusal}
-use Rattle.refusal.specs.declared.Verdict.{Verdict}
-use Rattle.refusal.specs.declared.Verdict.TheVariants.{Fine, Refused}
-use Rattle.refusal.specs.Outcome.{Outcome, each, heard}
+use Rattle.refusal.specs.Outcome.{Outcome, each, verdict_of}
 use Rattle.refusal.specs.Laws.{stop, go}
 use Rattle.sums.specs.Sum.{sum, sum_one, hit, occ, Each}
 use Rattle.sums.specs.Keys.{keep}
 use Rattle.sums.proofs.KeyLaws.{sum_ext, full_hit, all_each, lone_in}
 use Rattle.sums.proofs.CountLaws.{ones}
-use Rattle.sums.specs.ComponentLaws.{Ascend, Components}
+use Rattle.sums.specs.ComponentLaws.{Ascend}
 use Rattle.keys.specs.Rows.{Starts, rows}
 use Rattle.groups.specs.Groups.{Grouped}
-use Rattle.bodies.specs.Fusing.{Facet, Sense, cell_of, keys, check_facets, exterior, faces_of, body_of, materials, fuse}
+use Rattle.bodies.specs.Fusing.{Sense, cell_of, keys, check_facets, exterior, faces_of, body_of, materials, fuse}
 use Rattle.bodies.specs.ListLaws.{Valid}
 use Rattle.bodies.proofs.ListLaws.{spread, size, cells}
 use Rattle.interfaces.specs.Facets.{facets_of}
 use Rattle.volume.specs.Shell.{Points}
 use Rattle.fusing.specs.Groups.{grouped_starts, grouped_rows}
-use Rattle.fusing.specs.Bench.{Cycles, Bench, few_listed}
+use Rattle.fusing.specs.Bench.{Cycles, few_listed}
 use Rattle.assembly.specs.declared.Fused.{Fused}
 use Rattle.parts.specs.declared.Parted.{Parted}
 use Rattle.assembly.specs.Answer.{Laid}
@@ -82,14 +80,13 @@ module _ (v starts owners : List ℕ) (f n : ℕ) (w : Starts v starts f) (q : C
         let z = subst (λ gs. sum (λ c. length (faces_of (facets_of v starts owners f) c)) gs ≤ f) (sym (grouped_rows (materials (facets_of v starts owners f) n) c₀ u₀ c u g p)) all_facets in
         omega arith
 
-  module _ (volume : List ℕ → Outcome Sense) (c₀ u₀ x c u : List ℕ) (r : Parted) (p : Parting (facets_of v starts owners f) n c₀ u₀ x c u r) (x₀ s₀ b₀ x' s' b' : List ℕ) (m : Fused) where
-    pub fused_refused : (y : Refusal) → r.verdict ≡ Refused y → m ≡ record { verdict = r.verdict; bodies = 0; shells = 0; facets = 0 } → Laid (fuse volume (facets_of v starts owners f) n) x₀ s₀ b₀ x' s' b' m
-    unfolding fuse Laid heard
-    fused_refused y e k = subst (λ o. Laid o x₀ s₀ b₀ x' s' b' m) (sym (stop (check_facets (facets_of v starts owners f)) (λ _. each (body_of volume (facets_of v starts owners f)) [] (materials (facets_of v starts owners f) n)) y (sym p.told ∙ ap (λ t. heard t tt) e)))
-        (k ∙ ap (λ t. record { verdict = t; bodies = 0; shells = 0; facets = 0 }) e)
+  module _ (volume : List ℕ → Outcome Sense) (c₀ u₀ x c u : List ℕ) (o : Outcome Parted) (p : Parting (facets_of v starts owners f) n c₀ u₀ x c u o) (x₀ s₀ b₀ x' s' b' : List ℕ) (m : Outcome Fused) where
+    pub fused_refused : (y : Refusal) → o ≡ Err y → m ≡ Err y → Laid (fuse volume (facets_of v starts owners f) n) x₀ s₀ b₀ x' s' b' m
+    unfolding fuse Laid verdict_of
+    fused_refused y e k = subst (λ o. Laid o x₀ s₀ b₀ x' s' b' m) (sym (stop (check_facets (facets_of v starts owners f)) (λ _. each (body_of volume (facets_of v starts owners f)) [] (materials (facets_of v starts owners f) n)) y (sym p.told ∙ ap verdict_of e))) k
 
-    pub fused_made : r.verdict ≡ Fine → Laid (each (body_of volume (facets_of v starts owners f)) [] (rows c u r.groups)) x₀ s₀ b₀ x' s' b' m → Laid (fuse volume (facets_of v starts owners f) n) x₀ s₀ b₀ x' s' b' m
-    unfolding fuse heard
-    fused_made e k = subst (λ o. Laid o x₀ s₀ b₀ x' s' b' m)
-        (ap (each (body_of volume (facets_of v starts owners f)) []) (grouped_rows (materials (facets_of v starts owners f) n) c₀ u₀ c u r.groups (p.groups e))
-        ∙ sym (go (check_facets (facets_of v starts owners f)) (λ _. each (body_of volume (facets_of v starts owners f)) [] (materials (facets_of v starts owners f) n)) tt (sym p.told ∙ ap (λ t. heard t tt) e))) k
+    pub fused_made : (r : Parted) → o ≡ Ok r → Laid (each (body_of volume (facets_of v starts owners f)) [] (rows c u r.groups)) x₀ s₀ b₀ x' s' b' m → Laid (fuse volume (facets_of v starts owners f) n) x₀ s₀ b₀ x' s' b' m
+    unfolding fuse verdict_of
+    fused_made r e k = subst (λ o. Laid o x₀ s₀ b₀ x' s' b' m)
+        (ap (each (body_of volume (facets_of v starts owners f)) []) (grouped_rows (materials (facets_of v starts owners f) n) c₀ u₀ c u r.groups (p.groups r e))
+        ∙ sym (go (check_facets (facets_of v starts owners f)) (λ _. each (body_of volume (facets_of v starts owners f)) [] (materials (facets_of v starts owners f) n)) tt (sym p.told ∙ ap verdict_of e))) k

@@ -13,7 +13,7 @@ ghost use Rattle.assembly.specs.Answer.{Laid};
 ghost use Rattle.fuse.specs.Fusing.{Facetted, Shelves};
 
 use assembly::Fused;
-use refusal::{Refusal, Verdict};
+use refusal::Refusal;
 
 // The bodies of n cells: 18 and 19 in the order of keys, then body by body 20 to 23. `out` gets the facets, `sizes` how many each shell
 // has, `shells` how many each body has; the other slices are work memory.
@@ -38,7 +38,7 @@ pub fn fuse(
     out: &mut [u64],
     sizes: &mut [u64],
     shells: &mut [u64],
-) -> Fused
+) -> Result<Fused, Refusal>
     requires facetted { Facetted points.now v.now starts.now owners.now f n }
     requires bench { Bench v.now f faces.old d.old k.old s.old ord.old ends.old nodes.old marks.old }
     requires places { Places v.now f n k.old ord.old ext.old ends.old d.old s.old cells.old cuts.old × Shelves f n out.old sizes.old shells.old }
@@ -46,28 +46,17 @@ pub fn fuse(
 {
     let p = parts::part_cells(
         v, starts, owners, f, n, k, ord, ext, ends, d, s, cells, cuts,
-    );
-    let verdict = p.verdict;
-    let listed = p.listed;
-    let groups = p.groups;
-    let Verdict::Fine = verdict else {
-        return Fused {
-            verdict,
-            bodies: 0,
-            shells: 0,
-            facets: 0,
-        };
-    };
+    )?;
     assembly::list_bodies(
         points,
         v,
         starts,
         owners,
         f,
-        &ext[..listed],
+        &ext[..p.listed],
         cells,
         cuts,
-        groups,
+        p.groups,
         faces,
         d,
         k,

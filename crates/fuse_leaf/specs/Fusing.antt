@@ -1,8 +1,8 @@
 -- Fusing a list of cells that is handed in from outside. Definitions only.
-use Rattle.std.specs.Prelude.{◌≡◌, not, ◌&&◌, List, ℕ, ◌/◌, length, leb, Float}
+use Rattle.std.specs.Prelude.{◌≡◌, not, ◌&&◌, List, ℕ, ◌/◌, length, leb, Float, Ok, Err}
 use Rattle.std.proofs.lemmas.List.Edits.{sets}
 use Rattle.refusal.specs.declared.Refusal.{Refusal}
-use Rattle.refusal.specs.Outcome.{Outcome, ok, refused, then, unless, number_of}
+use Rattle.refusal.specs.Outcome.{Outcome, then, unless, number_of}
 use Rattle.space.specs.declared.Precision.{Precision}
 use Rattle.fused.specs.Bodies.{fuse_cells}
 use Rattle.fused_bytes.specs.Bytes.{answer_of}
@@ -16,5 +16,5 @@ fuse_lent t room k d n z a = unless (not (leb room 4608 && (leb room (a / 64) &&
 -- the number, and the bytes at the front of the answer; a refusal leaves it as it was
 pub record Told (o : Outcome (List ℕ)) (a₀ a : List ℕ) (r : ℕ) : Type 0 where
   pub number : r ≡ number_of o
-  pub bytes : (l : List ℕ) → o ≡ ok l → a ≡ sets a₀ 0 l
-  pub same : (e : Refusal) → o ≡ refused e → a ≡ a₀
+  pub bytes : (l : List ℕ) → o ≡ Ok l → a ≡ sets a₀ 0 l
+  pub same : (e : Refusal) → o ≡ Err e → a ≡ a₀

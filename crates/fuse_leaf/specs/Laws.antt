@@ -1,11 +1,11 @@
 -- Laws of the call from outside, in the words of the code.
-use Rattle.std.specs.Prelude.{◌≡◌, Bool, false, not, ◌&&◌, List, ℕ, ◌*◌, ◌/◌, ◌≤◌, ◌<◌, length, leb, Float}
+use Rattle.std.specs.Prelude.{◌≡◌, Bool, false, not, ◌&&◌, List, ℕ, ◌*◌, ◌/◌, ◌≤◌, ◌<◌, length, leb, Float, Ok, Err}
 use Rattle.std.proofs.Math.Path.{refl, sym, ap, subst}
 use Rattle.std.proofs.Common.{◌∙◌, arith, le-leb}
 use Rattle.std.proofs.Math.Bool.{true}
 use Rattle.std.proofs.lemmas.List.Edits.{sets}
 use Rattle.std.proofs.lemmas.Bool.{lt-leb}
-use Rattle.refusal.specs.Outcome.{Outcome, ok, refused, then, unless, number_of}
+use Rattle.refusal.specs.Outcome.{Outcome, then, unless, number_of}
 use Rattle.refusal.specs.Laws.{same_ok, never_ok}
 use Rattle.space.specs.declared.Precision.{Precision}
 use Rattle.lent.specs.Lent.{number_by}
@@ -52,8 +52,8 @@ module _ (t : Precision) (room k : ℕ) (d : List Float) (n z a₀ : List ℕ) w
       module _ (many : room ≤ length z) where
         by : (o : Outcome (List ℕ)) (a : List ℕ) (e : Ended) (r : ℕ) → e ≡ ended_of o → a ≡ written o a₀ → r ≡ number_by e.verdict → Told o a₀ a r
         unfolding number_of number_by ended_of written
-        by (ok l) a e r w g h = record { number = h ∙ ap (λ x. number_by x.verdict) w; bytes = λ m q. g ∙ ap (sets a₀ 0) (same_ok q); same = λ x q. never_ok (sym q) }
-        by (refused x) a e r w g h = record { number = h ∙ ap (λ x. number_by x.verdict) w; bytes = λ m q. never_ok q; same = λ y q. g }
+        by (Ok l) a e r w g h = record { number = h ∙ ap (λ x. number_by x.verdict) w; bytes = λ m q. g ∙ ap (sets a₀ 0) (same_ok q); same = λ x q. never_ok (sym q) }
+        by (Err x) a e r w g h = record { number = h ∙ ap (λ x. number_by x.verdict) w; bytes = λ m q. never_ok q; same = λ y q. g }
 
         pub told_all : (s : Stack) (a : List ℕ) (e : Ended) (r : ℕ) → Listed room (list_in room k d n z) s d n z → (e ≡ ended_of (answer_of (then (list_at s d n z) (fuse_cells t room)))) × (a ≡ written (answer_of (then (list_at s d n z) (fuse_cells t room))) a₀) →
             r ≡ number_by e.verdict → Told (fuse_lent t room k d n z (length a₀)) a₀ a r

@@ -1,11 +1,12 @@
 -- The bodies of a list of cells, and the slices that they are found in. Definitions only.
-use Rattle.std.specs.Prelude.{List, ℕ, ◌+◌, ◌*◌, ◌≤◌, ◌<◌, length, take, Float}
-use Rattle.refusal.specs.Outcome.{Outcome, then, heard}
+use Rattle.std.specs.Prelude.{◌≡◌, List, ℕ, ◌+◌, ◌*◌, ◌≤◌, ◌<◌, length, take, Float, Ok}
+use Rattle.refusal.specs.Outcome.{Outcome, then}
 use Rattle.space.specs.declared.Precision.{Precision}
 use Rattle.space.specs.Shapes.{Cell}
 use Rattle.bodies.specs.Fusing.{Bodies, fuse}
 use Rattle.interfaces.specs.Facets.{facets_of}
 use Rattle.cavities.specs.Steps.{volume_of}
+use Rattle.assembly.specs.declared.Fused.{Fused}
 use Rattle.assembly.specs.Answer as A
 use Rattle.fuse.specs.Fusing.{Facetted}
 use Rattle.arrangement.specs.declared.Layout.{Layout}
@@ -18,11 +19,9 @@ use Rattle.fuse_list.specs.declared.Listing.{Listing}
 unfoldable pub bodies_of : Precision → ℕ → List Cell → Outcome Bodies
 bodies_of t room cs = then (arrange_cells t room cs) (λ a. fuse_in a (length cs))
 
--- the bodies of n cells, from the front of slices that a layout tells of; its refusal stays
+-- the bodies of n cells, from the front of slices that a layout tells of
 unfoldable pub fuse_at : Layout → ℕ → List Float → List ℕ → List ℕ → List ℕ → Outcome Bodies
-fuse_at y n p c s w =
-    then (heard {A = Unit {0}} y.verdict tt)
-    (λ _. fuse (volume_of (take (3 * y.points) p) (take y.vertices c) (take (y.facets + 1) s)) (facets_of (take y.vertices c) (take (y.facets + 1) s) (take y.facets w) y.facets) n)
+fuse_at y n p c s w = fuse (volume_of (take (3 * y.points) p) (take y.vertices c) (take (y.facets + 1) s)) (facets_of (take y.vertices c) (take (y.facets + 1) s) (take y.facets w) y.facets) n
 
 -- the front of the slices is what fusing takes, and fits the room
 pub record Ready (room : ℕ) (y : Layout) (n : ℕ) (p : List Float) (c s w : List ℕ) : Type 0 where
@@ -55,7 +54,10 @@ pub record Tools (room : ℕ) (e c u f d k s o l q m x z b : List ℕ) : Type 0 
   pub sizes : room ≤ length z
   pub shells : room ≤ length b
 
--- the arrangement of a list, and its bodies, as they lie in slices; after a refusal the slices are free
-pub record Told (t : Precision) (room : ℕ) (o : Outcome (List Cell)) (p₀ : List Float) (c₀ s₀ w₀ x₀ z₀ b₀ : List ℕ) (p : List Float) (c s w x z b : List ℕ) (r : Listing) : Type 0 where
-  pub arranged : R.Laid (then o (arrange_cells t room)) p₀ c₀ s₀ w₀ p c s w r.layout
-  pub fused : A.Laid (then o (bodies_of t room)) x₀ z₀ b₀ x z b r.fused
+-- the arrangement of a list, and its bodies, as they lie in slices, whose first refusal is the answer; after a refusal the slices are free
+pub record Told (t : Precision) (room : ℕ) (o : Outcome (List Cell)) (p₀ : List Float) (c₀ s₀ w₀ x₀ z₀ b₀ : List ℕ) (p : List Float) (c s w x z b : List ℕ) (r : Outcome Listing) : Type 0 where
+  pub layout : Outcome Layout
+  pub bodies : Outcome Fused
+  pub arranged : R.Laid (then o (arrange_cells t room)) p₀ c₀ s₀ w₀ p c s w layout
+  pub fused : A.Laid (then o (bodies_of t room)) x₀ z₀ b₀ x z b bodies
+  pub is : r ≡ then layout (λ y. then bodies (λ g. Ok (record { layout = y; fused = g })))

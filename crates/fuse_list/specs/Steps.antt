@@ -1,11 +1,10 @@
 -- The code's cases.
-use Rattle.std.specs.Prelude.{◌≡◌, List, ℕ, ◌+◌, ◌*◌, length, Float}
+use Rattle.std.specs.Prelude.{◌≡◌, List, ℕ, ◌+◌, ◌*◌, length, Float, Ok, Err}
 use Rattle.std.proofs.Common.{sym, ◌∙◌, arith, length-take-le}
 use Rattle.std.proofs.Math.Path.{ap, subst}
 use Rattle.std.proofs.Math.ListN.{take}
 use Rattle.refusal.specs.declared.Refusal.{Refusal}
-use Rattle.refusal.specs.declared.Verdict.TheVariants.{Fine, Refused}
-use Rattle.refusal.specs.Outcome.{then, heard}
+use Rattle.refusal.specs.Outcome.{Outcome}
 use Rattle.bodies.specs.Fusing.{fuse}
 use Rattle.interfaces.specs.Facets.{facets_of}
 use Rattle.cavities.specs.Steps.{volume_of}
@@ -55,22 +54,11 @@ module _ {room : ℕ} {y : Layout} {n : ℕ} {p : List Float} {c s w : List ℕ}
   pub tools_shelves : Shelves y.facets n out sizes shells
   tools_shelves = record { facets = omega (arith, R.facets, T.out); sizes = omega (arith, R.facets, T.sizes); bodies = omega (arith, R.cells, T.shells) }
 
-module _ (y : Layout) (n : ℕ) (p : List Float) (c s w : List ℕ) (x₀ z₀ b₀ x z b : List ℕ) (r : Fused) where
-  pub at_refused : (e : Refusal) → y.verdict ≡ Refused e → r ≡ record { verdict = y.verdict; bodies = 0; shells = 0; facets = 0 } → Laid (fuse_at y n p c s w) x₀ z₀ b₀ x z b r
-  unfolding fuse_at heard Laid
-  at_refused e v g =
-      let vs = take y.vertices c in
-      let ss = take (y.facets + 1) s in
-      subst (λ u. Laid (then (heard {A = Unit {0}} u tt) (λ _. fuse (volume_of (take (3 * y.points) p) vs ss) (facets_of vs ss (take y.facets w) y.facets) n)) x₀ z₀ b₀ x z b r) (sym v)
-      (g ∙ ap (λ u. record { verdict = u; bodies = 0; shells = 0; facets = 0 }) v)
-
-  pub at_made : y.verdict ≡ Fine → Laid (fuse (volume_of (take (3 * y.points) p) (take y.vertices c) (take (y.facets + 1) s)) (facets_of (take y.vertices c) (take (y.facets + 1) s) (take y.facets w) y.facets) n) x₀ z₀ b₀ x z b r →
-      Laid (fuse_at y n p c s w) x₀ z₀ b₀ x z b r
-  unfolding fuse_at heard
-  at_made v l =
-      let vs = take y.vertices c in
-      let ss = take (y.facets + 1) s in
-      subst (λ u. Laid (then (heard {A = Unit {0}} u tt) (λ _. fuse (volume_of (take (3 * y.points) p) vs ss) (facets_of vs ss (take y.facets w) y.facets) n)) x₀ z₀ b₀ x z b r) (sym v) l
+pub at_made : (y : Layout) (n : ℕ) (p : List Float) (c s w : List ℕ) (x₀ z₀ b₀ x z b : List ℕ) (r : Outcome Fused) →
+    Laid (fuse (volume_of (take (3 * y.points) p) (take y.vertices c) (take (y.facets + 1) s)) (facets_of (take y.vertices c) (take (y.facets + 1) s) (take y.facets w) y.facets) n) x₀ z₀ b₀ x z b r →
+    Laid (fuse_at y n p c s w) x₀ z₀ b₀ x z b r
+unfolding fuse_at
+at_made y n p c s w x₀ z₀ b₀ x z b r l = l
 
 -- slices of the same lengths serve as well
 pub tools_on : {room : ℕ} {e c u f d k s o l q m x z b : List ℕ} (e' f' : List ℕ) → Tools room e c u f d k s o l q m x z b → length e' ≡ length e → length f' ≡ length f → Tools room e' c u f' d k s o l q m x z b

@@ -1,8 +1,6 @@
 #![tactic(auto)]
 
 // The bodies of a list of cells: its arrangement, laid out in slices, and the bodies of that.
-ghost use Rattle.std.specs.Prelude.{◌≡◌};
-ghost use Rattle.refusal.specs.declared.Verdict.TheVariants.{Fine};
 ghost use Rattle.assembly.specs.Answer.{Laid};
 ghost use Rattle.stack.specs.Stacks.{list_at, Holds};
 ghost use Rattle.arrangement.specs.Arrangements.{Lent};
@@ -10,7 +8,7 @@ ghost use Rattle.fuse_list.specs.Lists.{fuse_at, Ready, Tools, Told};
 
 use arrangement::Layout;
 use assembly::Fused;
-use refusal::Verdict;
+use refusal::Refusal;
 use space::Precision;
 use stack::Stack;
 
@@ -21,7 +19,7 @@ pub struct Listing {
     pub fused: Fused,
 }
 
-// The bodies of n cells, whose arrangement stands at the front of four slices; a refusal of the layout stays.
+// The bodies of n cells, whose arrangement stands at the front of four slices.
 pub fn fuse_laid(
     y: Layout,
     limit: usize,
@@ -44,22 +42,13 @@ pub fn fuse_laid(
     out: &mut [u64],
     sizes: &mut [u64],
     shells: &mut [u64],
-) -> Fused
-    requires { (y.verdict ≡ Fine → Ready limit y n points.now cycles.now starts.now owners.now) × Tools limit ext.old cells.old cuts.old faces.old d.old k.old s.old ord.old ends.old nodes.old marks.old out.old sizes.old shells.old }
+) -> Result<Fused, Refusal>
+    requires { Ready limit y n points.now cycles.now starts.now owners.now × Tools limit ext.old cells.old cuts.old faces.old d.old k.old s.old ord.old ends.old nodes.old marks.old out.old sizes.old shells.old }
     ensures { Laid (fuse_at y n points.now cycles.now starts.now owners.now) out.old sizes.old shells.old out.new sizes.new shells.new result }
 {
-    let verdict = y.verdict;
     let m = y.points;
     let f = y.facets;
     let v = y.vertices;
-    let Verdict::Fine = verdict else {
-        return Fused {
-            verdict,
-            bodies: 0,
-            shells: 0,
-            facets: 0,
-        };
-    };
     fuse::fuse(
         &points[..3 * m],
         &cycles[..v],
@@ -110,17 +99,18 @@ pub fn fuse_list(
     out: &mut [u64],
     many: &mut [u64],
     shells: &mut [u64],
-) -> Listing
+) -> Result<Listing, Refusal>
     requires { Holds limit list d.now counts.now sizes.old × Lent limit points.old corners.old cycles.old lengths.old starts.old owners.old × Tools limit corners.old cells.old cuts.old lengths.old runs.old k.old s.old ord.old ends.old sizes.old marks.old out.old many.old shells.old }
     ensures { Told t limit (list_at list d.now counts.now sizes.old) points.old cycles.old starts.old owners.old out.old many.old shells.old points.new cycles.new starts.new owners.new out.new many.new shells.new result }
 {
     let n = list.cells;
-    let layout = arrangement::arrangement(
+    let arranged = arrangement::arrangement(
         t, limit, list, d, counts, sizes, points, corners, cycles, lengths, starts, owners,
     );
+    let layout = arranged?;
     let fused = fuse_laid(
         layout, limit, n, points, cycles, starts, owners, corners, cells, cuts, lengths, runs, k,
         s, ord, ends, sizes, marks, out, many, shells,
-    );
-    Listing { layout, fused }
+    )?;
+    Ok(Listing { layout, fused })
 }

@@ -1,10 +1,9 @@
 -- Laws of the call, in the words of the code: what is lent suffices for the pieces and for their bodies, and both make the call.
-use Rattle.std.specs.Prelude.{◌≡◌, refl, Bool, List, ℕ, ◌*◌, ◌≤◌, length, Float}
+use Rattle.std.specs.Prelude.{◌≡◌, refl, Bool, List, ℕ, ◌*◌, ◌≤◌, length, Float, Ok, Err}
 use Rattle.std.proofs.Math.Path.{sym, ap, subst}
 use Rattle.std.proofs.Common.{◌∙◌, arith}
 use Rattle.refusal.specs.declared.Refusal.{Refusal}
-use Rattle.refusal.specs.declared.Verdict.TheVariants as D
-use Rattle.refusal.specs.Outcome.{Outcome, ok, refused, then}
+use Rattle.refusal.specs.Outcome.{Outcome, then}
 use Rattle.refusal.specs.Laws.{stop, go}
 use Rattle.room.specs.Rooms.{cell_at, counts_at}
 use Rattle.clip.specs.Clips.{Given, Wide}
@@ -14,9 +13,6 @@ use Rattle.stack.specs.Laws.{listed_is, listed_refused, holds}
 use Rattle.cells.specs.Rests.{Sits, Place}
 use Rattle.pieces.specs.Pieces.{pieces_of}
 use Rattle.job.specs.declared.Layout.{Layout}
-use Rattle.job.specs.declared.Laid.{Laid}
-use Rattle.job.specs.declared.Laid.TheVariants as J
-use Rattle.job.specs.Read.{laid}
 use Rattle.intake.specs.Layouts.{Stood}
 use Rattle.jobs.specs.declared.Pair.{Pair}
 use Rattle.jobs.specs.Jobs.{open_job, Both, both_of, TookBoth}
@@ -34,22 +30,22 @@ use Rattle.fuse_served.specs.Entry.{pieces_both, fuse_both, fuse_laid, fuse_entr
 
 -- ---- the solids of the job, and their pieces
 
-module _ (l : List ℕ) (y : Layout) (r : Pair) (a : List Float) (held : List ℕ) (b : List Float) (counts : List ℕ) (T : TookBoth (both_of l y) r a held b counts) where
+module _ (l : List ℕ) (y : Layout) (r : Outcome Pair) (a : List Float) (held : List ℕ) (b : List Float) (counts : List ℕ) (T : TookBoth (both_of l y) r a held b counts) where
   -- a solid is refused
-  pub cut_stop : (room : ℕ) (q : Refusal) (d : List Float) (n z : List ℕ) → r.verdict ≡ D.Refused q →
-      Listed room (then (both_of l y) (pieces_both room y)) (record { verdict = r.verdict; cells = 0; faces = 0; corners = 0 }) d n z
+  pub cut_stop : (room : ℕ) (q : Refusal) (d : List Float) (n z : List ℕ) → r ≡ Err q →
+      Listed room (then (both_of l y) (pieces_both room y)) (record { verdict = Err q; cells = 0; faces = 0; corners = 0 }) d n z
   unfolding stack_of
   cut_stop room q d n z v =
-      let e : then (both_of l y) (pieces_both room y) ≡ refused q = pair_stop l y r a held b counts T (pieces_both room y) q v in
-      let s : Stack = record { verdict = r.verdict; cells = 0; faces = 0; corners = 0 } in
-      subst (λ o. Listed room o s d n z) (sym e) (listed_refused room q s d n z (ap {B = Stack} (λ x. record { verdict = x; cells = 0; faces = 0; corners = 0 }) v))
+      let e : then (both_of l y) (pieces_both room y) ≡ Err q = pair_stop l y r a held b counts T (pieces_both room y) q v in
+      let s : Stack = record { verdict = Err q; cells = 0; faces = 0; corners = 0 } in
+      subst (λ o. Listed room o s d n z) (sym e) (listed_refused room q s d n z refl)
 
   -- both stand in their rooms
-  pub cut_cells : r.verdict ≡ D.Fine → Sits r.first a held × Given b 0 counts 0 r.second × Wide (cell_at b 0 (counts_at counts 0 r.second)) × (1 ≤ r.second) × (r.second ≤ 128)
-  cut_cells v =
-      let p = pair_cells l y r a held b counts T v in
-      let s = p.2 in
-      let w = p.3 in (
+  pub cut_cells : (p : Pair) → r ≡ Ok p → Sits p.first a held × Given b 0 counts 0 p.second × Wide (cell_at b 0 (counts_at counts 0 p.second)) × (1 ≤ p.second) × (p.second ≤ 128)
+  cut_cells p v =
+      let q = pair_cells l y r a held b counts T p v in
+      let s = q.2 in
+      let w = q.3 in (
         record { given = record { listed = s.listed; within = s.within }; wide = s.wide; some = omega (arith, s.some); few = omega (arith, s.few) },
         record { listed = w.listed; within = w.within },
         w.wide,
@@ -57,16 +53,16 @@ module _ (l : List ℕ) (y : Layout) (r : Pair) (a : List Float) (held : List �
         omega (arith, w.few),
       )
 
-  pub cut_go : (room : ℕ) (s : Stack) (d : List Float) (n z : List ℕ) → r.verdict ≡ D.Fine →
-      Listed room (pieces_of y.operation y.precision room (cell_at a 0 (counts_at held 0 r.first)) (cell_at b 0 (counts_at counts 0 r.second))) s d n z → Listed room (then (both_of l y) (pieces_both room y)) s d n z
-  cut_go room s d n z v h = subst (λ o. Listed room o s d n z) (pair_go l y r a held b counts T (pieces_of y.operation y.precision room) v) h
+  pub cut_go : (room : ℕ) (s : Stack) (d : List Float) (n z : List ℕ) (p : Pair) → r ≡ Ok p →
+      Listed room (pieces_of y.operation y.precision room (cell_at a 0 (counts_at held 0 p.first)) (cell_at b 0 (counts_at counts 0 p.second))) s d n z → Listed room (then (both_of l y) (pieces_both room y)) s d n z
+  cut_go room s d n z p v h = subst (λ o. Listed room o s d n z) (pair_go l y r a held b counts T (pieces_of y.operation y.precision room) p v) h
 
 -- ---- the pieces, their bodies, and the bytes
 
 fused_is : (room : ℕ) (y : Layout) (o : Outcome Both) → answer_of (then (then o (pieces_both room y)) (fuse_cells y.precision room)) ≡ then o (fuse_both room y)
 unfolding answer_of fuse_call fused_of
-fused_is room y (ok p) = refl
-fused_is room y (refused q) = refl
+fused_is room y (Ok p) = refl
+fused_is room y (Err q) = refl
 
 laid_is : (l : List ℕ) (room : ℕ) (y : Layout) (s : Stack) (d : List Float) (n z : List ℕ) → Listed room (then (both_of l y) (pieces_both room y)) s d n z →
     answer_of (then (list_at s d n z) (fuse_cells y.precision room)) ≡ fuse_laid l room y
@@ -75,22 +71,21 @@ laid_is l room y s d n z H = ap (λ o. answer_of (then o (fuse_cells y.precision
 
 -- ---- the job is refused
 
-pub entry_refused : (enough lent : Bool) (room : ℕ) (l : List ℕ) (c : Laid) (x : Refusal) (r : Ended) (answer : List ℕ) → enough ≡ lent → laid c ≡ open_job enough l → c ≡ J.Refused x → r ≡ stopped x →
+pub entry_refused : (enough lent : Bool) (room : ℕ) (l : List ℕ) (c : Outcome Layout) (x : Refusal) (r : Ended) (answer : List ℕ) → enough ≡ lent → c ≡ open_job enough l → c ≡ Err x → r ≡ stopped x →
     ((r ≡ ended_of (fuse_entry lent room l)) × (r.bytes ≤ 274877906944) × (r.bytes ≤ 64 * room)) × (answer ≡ written (fuse_entry lent room l) answer)
-unfolding laid fuse_entry ended_of written
+unfolding fuse_entry ended_of written
 entry_refused enough lent room l c x r answer q e g h =
-    let w : refused x ≡ fuse_entry lent room l = sym (stop (open_job enough l) (fuse_laid l room) x (sym e ∙ ap laid g)) ∙ ap (λ b. fuse_entry b room l) q in
+    let w : Err x ≡ fuse_entry lent room l = sym (stop (open_job enough l) (fuse_laid l room) x (sym e ∙ g)) ∙ ap (λ b. fuse_entry b room l) q in
     let z : r.bytes ≡ 0 = ap (λ k. k.bytes) h in
     ((h ∙ ap ended_of w, omega (arith, z), omega (arith, z)), ap (λ o. written o answer) w)
 
 -- ---- the job is read: what the test said, and what it means
 
-module _ (room : ℕ) (answer : List ℕ) (rest spare dst : List Float) (held slots counts sizes seats lengths owners cells cuts runs keys begins ord ends marks out many shells : List ℕ) (enough : Bool) (l : List ℕ) (c : Laid) (y : Layout)
+module _ (room : ℕ) (answer : List ℕ) (rest spare dst : List Float) (held slots counts sizes seats lengths owners cells cuts runs keys begins ord ends marks out many shells : List ℕ) (enough : Bool) (l : List ℕ) (c : Outcome Layout) (y : Layout)
     (q : enough ≡ lends room (length answer) (length rest) (length spare) (length dst) (length held) (length slots) (length counts) (length sizes) (length seats) (length lengths) (length owners) (length cells) (length cuts) (length runs) (length keys) (length begins) (length ord) (length ends) (length marks) (length out) (length many) (length shells))
-    (e : laid c ≡ open_job enough l) (g : c ≡ J.Made y) where
-  opened : open_job enough l ≡ ok y
-  unfolding laid
-  opened = sym e ∙ ap laid g
+    (e : c ≡ open_job enough l) (g : c ≡ Ok y) where
+  opened : open_job enough l ≡ Ok y
+  opened = sym e ∙ g
 
   lent : Lent room (length answer) (length rest) (length spare) (length dst) (length held) (length slots) (length counts) (length sizes) (length seats) (length lengths) (length owners) (length cells) (length cuts) (length runs) (length keys) (length begins) (length ord) (length ends) (length marks) (length out) (length many) (length shells)
   lent = lent_is room (length answer) (length rest) (length spare) (length dst) (length held) (length slots) (length counts) (length sizes) (length seats) (length lengths) (length owners) (length cells) (length cuts) (length runs) (length keys) (length begins) (length ord) (length ends) (length marks) (length out) (length many) (length shells) (sym q ∙ (job_opened enough l y opened).0)

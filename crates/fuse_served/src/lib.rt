@@ -11,8 +11,8 @@ ghost use Rattle.jobs.specs.Jobs.{both_of};
 ghost use Rattle.fuse_served.specs.Entry.{pieces_both, FuseEnded};
 
 use ended::Ended;
-use job::{Laid, Layout};
-use refusal::Verdict;
+use job::Layout;
+use refusal::Refusal;
 use stack::Stack;
 
 // The pieces of the job's operation, listed in `dst`, `counts` and `sizes`; the second solid and the planes have memory of the call's own.
@@ -38,36 +38,35 @@ fn cut_job(
     let mut planes = [0.0; 3328];
     let o = y.operation;
     let t = y.precision;
-    let pair = jobs::take_both(job, y, rest, held, &mut src, &mut corners);
-    let v = pair.verdict;
-    let Verdict::Fine = v else {
-        return Stack {
-            verdict: v,
+    let taken = jobs::take_both(job, y, rest, held, &mut src, &mut corners);
+    match taken {
+        Err(r) => Stack {
+            verdict: Err(r),
             cells: 0,
             faces: 0,
             corners: 0,
-        };
-    };
-    pieces::pieces(
-        o,
-        t,
-        limit,
-        pair.first,
-        &src,
-        0,
-        &corners,
-        0,
-        pair.second,
-        &mut planes,
-        rest,
-        held,
-        dst,
-        counts,
-        sizes,
-        spare,
-        slots,
-        seats,
-    )
+        },
+        Ok(pair) => pieces::pieces(
+            o,
+            t,
+            limit,
+            pair.first,
+            &src,
+            0,
+            &corners,
+            0,
+            pair.second,
+            &mut planes,
+            rest,
+            held,
+            dst,
+            counts,
+            sizes,
+            spare,
+            slots,
+            seats,
+        ),
+    }
 }
 
 // The whole call: how it ended, the answer standing at the front of `answer`.
@@ -126,7 +125,7 @@ pub fn served(
     );
     let read = jobs::open_job(job, enough);
     match read {
-        Laid::Made(y) => {
+        Ok(y) => {
             let t = y.precision;
             let list = cut_job(
                 job, y, limit, rest, spare, dst, held, slots, counts, sizes, seats,
@@ -158,6 +157,6 @@ pub fn served(
                 answer,
             )
         }
-        Laid::Refused(r) => ended::stop(r),
+        Err(r) => ended::stop(r),
     }
 }

@@ -1,7 +1,7 @@
 -- The fused bodies of a Boolean operation. Definitions only.
-use Rattle.std.specs.Prelude.{List, [], ◌∷◌, map, ℕ, length, get_or}
+use Rattle.std.specs.Prelude.{List, [], ◌∷◌, map, ℕ, length, get_or, Ok}
 use Rattle.std.specs.Float.{nan}
-use Rattle.refusal.specs.Outcome.{Outcome, ok, then}
+use Rattle.refusal.specs.Outcome.{Outcome, then}
 use Rattle.space.specs.declared.Point3.{Point3}
 use Rattle.space.specs.declared.Precision.{Precision}
 use Rattle.space.specs.Vector.{nowhere}
@@ -41,4 +41,4 @@ abbrev pub drawn_in : List Cell → Arrangement → Bodies → List (List (List 
 drawn_in cs a bs = map (map (map (facet_in a (faces_of cs)))) bs
 
 unfoldable pub fuse_cells : Precision → ℕ → List Cell → Outcome (List (List (List Face)))
-fuse_cells t room cs = then (arrange_cells t room cs) (λ a. then (fuse_in a (length cs)) (λ bs. ok (drawn_in cs a bs)))
+fuse_cells t room cs = then (arrange_cells t room cs) (λ a. then (fuse_in a (length cs)) (λ bs. Ok (drawn_in cs a bs)))

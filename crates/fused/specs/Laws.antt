@@ -6,7 +6,7 @@ use mathlib.Core.List.{List, [], ◌∷◌, ◌++◌, append_assoc, map}
 use Rattle.std.specs.Float.{nan}
 use Rattle.std.proofs.Math.ListN.{get_or}
 use Rattle.std.proofs.Math.Seq.{slice, drop-nil}
-use Rattle.refusal.specs.Outcome.{Outcome, ok}
+use Rattle.refusal.specs.Outcome.{Outcome}
 use Rattle.space.specs.declared.Point3.{Point3}
 use Rattle.space.specs.Vector.{nowhere}
 use Rattle.polygon.specs.Memory.{floats_of}

@@ -1,8 +1,8 @@
 -- DEMAND 3 of a Boolean operation's bodies: whenever fusing answers, it holds of the facets of the arrangement that the cells make.
-use Rattle.std.specs.Prelude.{◌≡◌, refl, List, [], ◌∷◌, map, ℕ, zero, suc, ◌<◌, length, get_or}
+use Rattle.std.specs.Prelude.{◌≡◌, refl, List, [], ◌∷◌, map, ℕ, zero, suc, ◌<◌, length, get_or, Ok}
 use Rattle.std.proofs.Common.{sym, ap, ◌∙◌, subst, arith, not-suc-le-zero, le_of_suc-le-suc}
 use Rattle.std.proofs.lemmas.List.{length-map}
-use Rattle.refusal.specs.Outcome.{Outcome, ok, then}
+use Rattle.refusal.specs.Outcome.{Outcome, then}
 use Rattle.refusal.specs.Laws.{same_ok, then_ok}
 use Rattle.space.specs.declared.Precision.{Precision}
 use Rattle.space.specs.Shapes.{Face, Cell}
@@ -38,13 +38,13 @@ facets_valid a k owned owners i h =
 -- the arrangement and the bodies behind an answer
 pub record Fusion (t : Precision) (room : ℕ) (cs : List Cell) (out : List (List (List Face))) : Type 0 where
   pub arrangement : Arrangement
-  pub arranged : arrange_cells t room cs ≡ ok arrangement
+  pub arranged : arrange_cells t room cs ≡ Ok arrangement
   pub bodies : Bodies
-  pub fused : fuse_in arrangement (length cs) ≡ ok bodies
+  pub fused : fuse_in arrangement (length cs) ≡ Ok bodies
   pub drawn : out ≡ drawn_in cs arrangement bodies
   pub demands : Demand (volume_in arrangement) (facets_in arrangement) (length cs) bodies
 
-pub fusion : (t : Precision) (room : ℕ) (cs : List Cell) (out : List (List (List Face))) → fuse_cells t room cs ≡ ok out → Fusion t room cs out
+pub fusion : (t : Precision) (room : ℕ) (cs : List Cell) (out : List (List (List Face))) → fuse_cells t room cs ≡ Ok out → Fusion t room cs out
 unfolding fuse_cells fuse_in
 fusion t room cs out e =
     let y = then_ok (arrange_cells t room cs) _ out e in

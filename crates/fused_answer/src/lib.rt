@@ -25,12 +25,10 @@ pub fn plane_spots(counts: &[u64], f: usize, m: usize, spots: &mut [u64])
     ensures { spots.new ≡ sets spots.old 0 (spots_from 0 (counts_at counts.now 0 f)) }
 {
     let mut o = 0;
-    let mut i = 0;
-    while i < f {
+    for i in 0..f {
         let n = counts[i] as usize;
         spots[i] = o as u64;
         o += room::PLANE + 3 * n;
-        i += 1;
     }
 }
 
@@ -39,12 +37,10 @@ fn put_corners(points: &[f64], v: &[u64], a: usize, n: usize, out: &mut [u8], at
     requires { Points points.now v.now × (a + n ≤ length v.now) × (at + 24 * n ≤ length out.old) }
     ensures { out.new ≡ sets out.old at (row (corner_bytes points.now) (counts_at v.now a n)) }
 {
-    let mut i = 0;
-    while i < n {
+    for i in 0..n {
         let p = v[a + i] as usize;
         let q = polygon::get_point(points, 3 * p);
         answer::put_point(out, at + 24 * i, q);
-        i += 1;
     }
 }
 
@@ -90,11 +86,9 @@ fn put_facets(
     ensures out_after { out.new ≡ sets out.old at (row (facet_bytes s.now spots.now points.now v.now starts.now) facets.now) }
 {
     let mut p = at;
-    let mut i = 0;
-    while i < facets.len() {
-        let k = facets[i] as usize;
+    for &facet in facets {
+        let k = facet as usize;
         p = put_facet(s, spots, points, v, starts, f, k, out, p);
-        i += 1;
     }
     p
 }
@@ -151,8 +145,7 @@ fn put_shells(
     let mut sense: u8 = 1;
     let mut p = at;
     let mut q = from;
-    let mut j = 0;
-    while j < k {
+    for j in 0..k {
         let n = sizes[sat + j] as usize;
         p = put_shell(
             sense,
@@ -168,7 +161,6 @@ fn put_shells(
         );
         sense = 0;
         q += n;
-        j += 1;
     }
     Written { at: p, facets: q }
 }
@@ -233,8 +225,7 @@ pub fn put_bodies(
     let mut p = at;
     let mut q = 0;
     let mut j = 0;
-    let mut i = 0;
-    while i < g {
+    for i in 0..g {
         let k = shells[i] as usize;
         let w = put_body(
             s, spots, points, v, starts, f, facets, q, sizes, j, k, out, p,
@@ -242,7 +233,6 @@ pub fn put_bodies(
         p = w.at;
         q = w.facets;
         j += k;
-        i += 1;
     }
     p
 }

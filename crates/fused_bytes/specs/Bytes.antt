@@ -1,7 +1,7 @@
 -- The bytes of the bodies that lie in slices. Definitions only.
-use Rattle.std.specs.Prelude.{List, [], ◌∷◌, ◌++◌, ℕ, ◌+◌, ◌*◌, ◌≤◌, ◌<◌, length, take, get_or, Float}
+use Rattle.std.specs.Prelude.{List, [], ◌∷◌, ◌++◌, ℕ, ◌+◌, ◌*◌, ◌≤◌, ◌<◌, length, take, get_or, Float, Ok}
 use Rattle.std.proofs.lemmas.List.Edits.{sets}
-use Rattle.refusal.specs.Outcome.{Outcome, ok, then, heard}
+use Rattle.refusal.specs.Outcome.{Outcome, then}
 use Rattle.space.specs.Shapes.{Face}
 use Rattle.words.specs.Little.{digits}
 use Rattle.answer.specs.Answers.{shell_answer}
@@ -27,7 +27,7 @@ unfoldable pub fused_answer : List (List (List Face)) → List ℕ
 fused_answer bs = row body_answer bs
 
 unfoldable pub answer_of : Outcome (List (List (List Face))) → Outcome (List ℕ)
-answer_of o = then o (λ bs. ok (fused_answer bs))
+answer_of o = then o (λ bs. Ok (fused_answer bs))
 
 -- d and n: the faces of the cells; p, c, s: the arrangement; x, z, b: its bodies
 module _ (y : Listing) (d : List Float) (n : List ℕ) (p : List Float) (c s x z b spots : List ℕ) where
@@ -38,10 +38,6 @@ module _ (y : Listing) (d : List Float) (n : List ℕ) (p : List Float) (c s x z
   -- the bodies' bytes, one behind another
   unfoldable pub printed : List ℕ
   printed = row (body_bytes d spots_at (take (3 * y.layout.points) p) (take y.layout.vertices c) (take (y.layout.facets + 1) s)) (bodies_at (take y.fused.facets x) z 0 0 (counts_at b 0 y.fused.bodies))
-
-  -- a refusal has none
-  unfoldable pub print_at : Outcome (List ℕ)
-  print_at = then (heard {A = Unit {0}} y.fused.verdict tt) (λ _. ok printed)
 
   -- the slices hold what was laid out, and there is room for the bytes
   pub record Printable (out : List ℕ) : Type 0 where
@@ -60,3 +56,7 @@ module _ (y : Listing) (d : List Float) (n : List ℕ) (p : List Float) (c s x z
     pub bodies : y.fused.bodies ≤ length b
     pub stacked : Stacked (take y.fused.facets x) z 0 0 (counts_at b 0 y.fused.bodies)
     pub fits : length printed ≤ length out
+
+-- the bytes of an answer; a refusal has none
+unfoldable pub print_at : Outcome Listing → List Float → List ℕ → List Float → List ℕ → List ℕ → List ℕ → List ℕ → List ℕ → List ℕ → Outcome (List ℕ)
+print_at r d n p c s x z b spots = then r (λ y. Ok (printed y d n p c s x z b spots))

@@ -1,11 +1,10 @@
 -- A fused answer has at most 64 bytes for each corner of the room.
-use Rattle.std.specs.Prelude.{◌≡◌, refl, ℕ, ◌+◌, ◌*◌, ◌≤◌, ◌<◌, get_or}
+use Rattle.std.specs.Prelude.{◌≡◌, refl, ℕ, ◌+◌, ◌*◌, ◌≤◌, ◌<◌, get_or, Ok}
 use Rattle.std.proofs.Common.{sym, ◌∙◌}
 use Rattle.std.proofs.Math.Path.{ap, subst}
 use mathlib.Core.List.{List, [], ◌∷◌, ◌++◌, map}
 use native.Mathlib.Omega.{arith}
 use Rattle.std.proofs.Math.ListN.{length, length-append, length-map}
-use Rattle.refusal.specs.Outcome.{ok}
 use Rattle.refusal.specs.Laws.{same_ok, then_ok}
 use Rattle.space.specs.declared.Precision.{Precision}
 use Rattle.space.specs.Shapes.{Face, Cell}
@@ -84,7 +83,7 @@ faces_wide (c ∷ cs) a = all_append (λ f. 3 ≤ length f.points) c (faces_of c
 
 -- ---- an answer of fusing
 
-module _ (t : Precision) (room : ℕ) (cs : List Cell) (out : List (List (List Face))) (e : fuse_cells t room cs ≡ ok out) (wide : All Wide cs) where
+module _ (t : Precision) (room : ℕ) (cs : List Cell) (out : List (List (List Face))) (e : fuse_cells t room cs ≡ Ok out) (wide : All Wide cs) where
   F : Fusion t room cs out
   F = fusion t room cs out e
 

@@ -1,5 +1,5 @@
 -- The code's cases.
-use Rattle.std.specs.Prelude.{◌≡◌, refl, take, get_or, Float}
+use Rattle.std.specs.Prelude.{◌≡◌, refl, take, get_or, Float, Ok, Err}
 use Rattle.std.proofs.Common.{sym, ◌∙◌, arith, length-take-le}
 use Rattle.std.proofs.Math.Path.{ap}
 use mathlib.Core.List.{List}
@@ -7,8 +7,8 @@ use Prim.Native.Nat.{ℕ, ◌+◌, ◌*◌, ◌≤◌}
 use Rattle.std.proofs.Math.ListN.{length}
 use Rattle.std.proofs.Math.Seq.{sets, length-sets}
 use Rattle.refusal.specs.declared.Refusal.{Refusal}
-use Rattle.refusal.specs.declared.Verdict.TheVariants.{Fine, Refused}
-use Rattle.refusal.specs.Outcome.{Outcome, ok, refused, then, heard}
+use Rattle.refusal.specs.Outcome.{Outcome, then}
+use Rattle.refusal.specs.Laws.{stop, go}
 use Rattle.room.specs.Rooms.{counts_at}
 use Rattle.ended.specs.declared.Ended.{Ended}
 use Rattle.ended.specs.Ends.{ended_of, written}
@@ -40,21 +40,21 @@ module _ (y : Listing) (d : List Float) (n : List ℕ) (p : List Float) (c s x z
   unfolding printed spots_at
   print_fits w P e = omega (arith, P.fits, ap (λ l. length (row (body_bytes d l (take (3 * y.layout.points) p) (take y.layout.vertices c) (take (y.layout.facets + 1) s)) (bodies_at (take y.fused.facets x) z 0 0 (counts_at b 0 y.fused.bodies)))) e)
 
-  module _ (out₀ out : List ℕ) where
-    pub print_refused : (e : Refusal) → y.fused.verdict ≡ Refused e →
-        (record { verdict = y.fused.verdict; bytes = 0 } ≡ ended_of (print_at y d n p c s x z b spots)) × (out₀ ≡ written (print_at y d n p c s x z b spots) out₀)
-    unfolding print_at heard ended_of written
-    print_refused e v =
-        let o : print_at y d n p c s x z b spots ≡ refused e = ap (λ u. then (heard {A = Unit {0}} u tt) (λ _. ok (printed y d n p c s x z b spots))) v in
-        (ap {B = Ended} (λ u. record { verdict = u; bytes = 0 }) v ∙ ap ended_of (sym o), ap (λ q. written q out₀) (sym o))
+module _ (r : Outcome Listing) (d : List Float) (n : List ℕ) (p : List Float) (c s x z b spots : List ℕ) (out₀ out : List ℕ) where
+  pub print_refused : (e : Refusal) → r ≡ Err e →
+      (record { verdict = Err e; bytes = 0 } ≡ ended_of (print_at r d n p c s x z b spots)) × (out₀ ≡ written (print_at r d n p c s x z b spots) out₀)
+  unfolding print_at ended_of written
+  print_refused e v =
+      let o : print_at r d n p c s x z b spots ≡ Err e = stop r (λ y. Ok (printed y d n p c s x z b spots)) e v in
+      (ap ended_of (sym o), ap (λ q. written q out₀) (sym o))
 
-    pub print_made : (w : List ℕ) (m : ℕ) → y.fused.verdict ≡ Fine → w ≡ sets spots 0 (spots_from 0 (counts_at n 0 y.layout.facets)) →
-        m ≡ 0 + length (row (body_bytes d w (take (3 * y.layout.points) p) (take y.layout.vertices c) (take (y.layout.facets + 1) s)) (bodies_at (take y.fused.facets x) z 0 0 (counts_at b 0 y.fused.bodies))) →
-        out ≡ sets out₀ 0 (row (body_bytes d w (take (3 * y.layout.points) p) (take y.layout.vertices c) (take (y.layout.facets + 1) s)) (bodies_at (take y.fused.facets x) z 0 0 (counts_at b 0 y.fused.bodies))) →
-        (record { verdict = Fine; bytes = m } ≡ ended_of (print_at y d n p c s x z b spots)) × (out ≡ written (print_at y d n p c s x z b spots) out₀)
-    unfolding print_at heard ended_of written printed spots_at
-    print_made w m v e g h =
-        let t : List ℕ → List ℕ = λ l. row (body_bytes d l (take (3 * y.layout.points) p) (take y.layout.vertices c) (take (y.layout.facets + 1) s)) (bodies_at (take y.fused.facets x) z 0 0 (counts_at b 0 y.fused.bodies)) in
-        let o : print_at y d n p c s x z b spots ≡ ok (printed y d n p c s x z b spots) = ap (λ u. then (heard {A = Unit {0}} u tt) (λ _. ok (printed y d n p c s x z b spots))) v in
-        let q : m ≡ length (printed y d n p c s x z b spots) = omega (arith, g, ap (λ l. length (t l)) e) in
-        (ap {B = Ended} (λ i. record { verdict = Fine; bytes = i }) q ∙ ap ended_of (sym o), h ∙ ap (λ i. sets out₀ 0 (t i)) e ∙ ap (λ i. written i out₀) (sym o))
+  pub print_made : (y : Listing) (w : List ℕ) (m : ℕ) → r ≡ Ok y → w ≡ sets spots 0 (spots_from 0 (counts_at n 0 y.layout.facets)) →
+      m ≡ 0 + length (row (body_bytes d w (take (3 * y.layout.points) p) (take y.layout.vertices c) (take (y.layout.facets + 1) s)) (bodies_at (take y.fused.facets x) z 0 0 (counts_at b 0 y.fused.bodies))) →
+      out ≡ sets out₀ 0 (row (body_bytes d w (take (3 * y.layout.points) p) (take y.layout.vertices c) (take (y.layout.facets + 1) s)) (bodies_at (take y.fused.facets x) z 0 0 (counts_at b 0 y.fused.bodies))) →
+      (record { verdict = Ok tt; bytes = m } ≡ ended_of (print_at r d n p c s x z b spots)) × (out ≡ written (print_at r d n p c s x z b spots) out₀)
+  unfolding print_at ended_of written printed spots_at
+  print_made y w m v e g h =
+      let t : List ℕ → List ℕ = λ l. row (body_bytes d l (take (3 * y.layout.points) p) (take y.layout.vertices c) (take (y.layout.facets + 1) s)) (bodies_at (take y.fused.facets x) z 0 0 (counts_at b 0 y.fused.bodies)) in
+      let o : print_at r d n p c s x z b spots ≡ Ok (printed y d n p c s x z b spots) = go r (λ y. Ok (printed y d n p c s x z b spots)) y v in
+      let q : m ≡ length (printed y d n p c s x z b spots) = omega (arith, g, ap (λ l. length (t l)) e) in
+      (ap {B = Ended} (λ i. record { verdict = Ok tt; bytes = i }) q ∙ ap ended_of (sym o), h ∙ ap (λ i. sets out₀ 0 (t i)) e ∙ ap (λ i. written i out₀) (sym o))

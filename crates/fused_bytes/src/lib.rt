@@ -1,8 +1,8 @@
 #![tactic(auto)]
 
 // The bytes of the bodies of a list of cells, out of the slices that `fuse_list` leaves.
-ghost use Rattle.std.specs.Prelude.{◌≡◌, ◌*◌, ◌≤◌, length};
-ghost use Rattle.refusal.specs.declared.Verdict.TheVariants.{Fine};
+ghost use Rattle.std.specs.Prelude.{◌≡◌, ◌*◌, ◌≤◌, length, Ok};
+ghost use Rattle.fuse_list.specs.declared.Listing.{Listing};
 ghost use Rattle.refusal.specs.Outcome.{then};
 ghost use Rattle.stack.specs.Stacks.{list_at, Holds};
 ghost use Rattle.arrangement.specs.Arrangements.{Lent};
@@ -13,13 +13,13 @@ ghost use Rattle.fused_bytes.specs.Bytes.{answer_of, print_at, Printable};
 
 use ended::Ended;
 use fuse_list::Listing;
-use refusal::Verdict;
+use refusal::Refusal;
 use space::Precision;
 use stack::Stack;
 
 // The bodies, one behind another; a refusal stays, and leaves the answer as it is. The faces of the cells stand in `d` and `counts`.
 pub fn put_listing(
-    y: Listing,
+    y: Result<Listing, Refusal>,
     d: &[f64],
     counts: &[u64],
     points: &[f64],
@@ -31,21 +31,26 @@ pub fn put_listing(
     spots: &mut [u64],
     out: &mut [u8],
 ) -> Ended
-    requires { y.fused.verdict ≡ Fine → Printable y d.now counts.now points.now cycles.now starts.now facets.now sizes.now shells.now spots.old out.old }
+    requires { (m : Listing) → y ≡ Ok m → Printable m d.now counts.now points.now cycles.now starts.now facets.now sizes.now shells.now spots.old out.old }
     ensures value { result ≡ ended_of (print_at y d.now counts.now points.now cycles.now starts.now facets.now sizes.now shells.now spots.old) }
     ensures out_after { out.new ≡ written (print_at y d.now counts.now points.now cycles.now starts.now facets.now sizes.now shells.now spots.old) out.old }
 {
-    let a = y.layout;
-    let b = y.fused;
-    let verdict = b.verdict;
+    let made = match y {
+        Ok(made) => made,
+        Err(r) => {
+            return Ended {
+                verdict: Err(r),
+                bytes: 0,
+            };
+        }
+    };
+    let a = made.layout;
+    let b = made.fused;
     let m = a.points;
     let f = a.facets;
     let v = a.vertices;
     let x = b.facets;
     let g = b.bodies;
-    let Verdict::Fine = verdict else {
-        return Ended { verdict, bytes: 0 };
-    };
     fused_answer::plane_spots(counts, f, d.len(), spots);
     let bytes = fused_answer::put_bodies(
         d,
@@ -62,7 +67,7 @@ pub fn put_listing(
         0,
     );
     Ended {
-        verdict: Verdict::Fine,
+        verdict: Ok(()),
         bytes,
     }
 }

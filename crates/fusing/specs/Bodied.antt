@@ -1,6 +1,6 @@
 -- The body of some facets, written out.
 use Rattle.std.proofs.Math.Path.{◌≡◌, sym, ap, subst}
-use Rattle.std.specs.Prelude.{refl, ℕ, zero, suc, ◌+◌, ◌-◌, ◌≤◌, ◌<◌, Float, get_or, take}
+use Rattle.std.specs.Prelude.{ℕ, zero, suc, ◌+◌, ◌-◌, ◌≤◌, ◌<◌, Float, get_or, take, Ok, Err}
 use Rattle.std.proofs.Common.{ap₂, ◌∙◌, add-one, get_or-take, take_at}
 use mathlib.Core.List.{List, [], ◌∷◌, ◌++◌, map}
 use native.Mathlib.Omega.{arith}
@@ -8,17 +8,14 @@ use Rattle.std.proofs.Math.ListN.{length, drop, length-append, length-drop}
 use Rattle.std.proofs.lemmas.List.{length-map}
 use Rattle.std.proofs.Math.Seq.{length-take-le}
 use Rattle.refusal.specs.declared.Refusal.{Refusal}
-use Rattle.refusal.specs.declared.Verdict.{Verdict}
-use Rattle.refusal.specs.declared.Verdict.TheVariants.{Fine, Refused}
-use Rattle.refusal.specs.Outcome.{Outcome, ok, refused}
+use Rattle.refusal.specs.Outcome.{Outcome}
 use Rattle.sums.specs.Sum.{Each}
 use Rattle.sums.proofs.KeyLaws.{get_d_map_lt, each_get_d}
 use Rattle.sums.specs.Components.{components}
-use Rattle.sums.specs.ComponentLaws.{Components}
 use Rattle.sums.proofs.ComponentLaws.{none_empty}
 use Rattle.keys.specs.Rows.{Starts, rows}
-use Rattle.groups.specs.Groups.{joined, Grouped, Within, joins_of}
-use Rattle.bodies.specs.Fusing.{Sense, order_shells}
+use Rattle.groups.specs.Groups.{joined, Grouped, joins_of}
+use Rattle.bodies.specs.Fusing.{order_shells}
 use Rattle.bodies.proofs.Full.{each_some}
 use Rattle.shells.specs.Named.{name_in, Spread, found, many_nodes, node_in, joined_map}
 use Rattle.cavities.specs.Outer.{Ordered, outer_of}
@@ -29,9 +26,9 @@ use Rattle.fusing.specs.declared.Made.{Made}
 use Rattle.fusing.specs.Groups.{joined_split, next_cut, grouped_starts, last_cut, grouped_rows}
 
 -- A body of m facets as it is written: its facets shell by shell, how many each shell has, and where the next body goes; or the refusal.
-unfoldable pub Bodied : Outcome (List (List ℕ)) → ℕ → List ℕ → List ℕ → ℕ → ℕ → List ℕ → List ℕ → Made → Type 0
-Bodied (ok b) m x₀ s₀ at sat x s r = (r ≡ record { verdict = Fine; facets = at + length (joined b); shells = sat + length b }) × (x ≡ appended x₀ at (joined b)) × (s ≡ appended s₀ sat (map length b)) × (length (joined b) ≡ m) × (length b ≤ m)
-Bodied (refused e) m x₀ s₀ at sat x s r = r ≡ record { verdict = Refused e; facets = at; shells = sat }
+unfoldable pub Bodied : Outcome (List (List ℕ)) → ℕ → List ℕ → List ℕ → ℕ → ℕ → List ℕ → List ℕ → Outcome Made → Type 0
+Bodied (Ok b) m x₀ s₀ at sat x s r = (r ≡ Ok (record { facets = at + length (joined b); shells = sat + length b })) × (x ≡ appended x₀ at (joined b)) × (s ≡ appended s₀ sat (map length b)) × (length (joined b) ≡ m) × (length b ≤ m)
+Bodied (Err e) m x₀ s₀ at sat x s r = r ≡ Err e
 
 -- Each facet of a body is a row that is not empty.
 pub record Faced (v starts : List ℕ) (f : ℕ) (fl : List ℕ) : Type 0 where
@@ -85,15 +82,16 @@ module _ (v starts : List ℕ) (f : ℕ) (ends head next seen work fl d₀ c₀ 
       up k (suc n) e = omega (arith, shells_fine.up (k + 1) (omega arith), up (k + 1) n (omega arith))
 
   module _ (ps : List Float) (at sat o : ℕ) (x₀ s₀ : List ℕ) where
-    pub body_refused : (t : Verdict) (r : Refusal) (x s : List ℕ) (n : Made) → Ordered (volume_of ps v starts) (rows d c g) t o → t ≡ Refused r → n ≡ record { verdict = t; facets = at; shells = sat } → Bodied (order_shells (volume_of ps v starts) (named_shells fl ends)) (length fl) x₀ s₀ at sat x s n
+    pub body_refused : (t : Outcome ℕ) (r : Refusal) (x s : List ℕ) (n : Outcome Made) → Ordered (volume_of ps v starts) (rows d c g) t → t ≡ Err r → n ≡ Err r → Bodied (order_shells (volume_of ps v starts) (named_shells fl ends)) (length fl) x₀ s₀ at sat x s n
     unfolding Ordered Bodied
-    body_refused Fine r x s n p e q = absurd (let z : ◌≡◌ {A = ℕ} 0 1 = cc in omega arith)
-    body_refused (Refused y) r x s n p e q = subst (λ u. Bodied u (length fl) x₀ s₀ at sat x s n) (sym p ∙ ap (order_shells (volume_of ps v starts)) (grouped_rows (named_shells fl ends) d₀ c₀ d c g w)) q
+    body_refused t r x s n p e q = subst (λ u. Bodied u (length fl) x₀ s₀ at sat x s n) (sym (subst (Ordered (volume_of ps v starts) (rows d c g)) e p) ∙ ap (order_shells (volume_of ps v starts)) (grouped_rows (named_shells fl ends) d₀ c₀ d c g w)) q
 
-    pub body_outer : (t : Verdict) → Ordered (volume_of ps v starts) (rows d c g) t o → t ≡ Fine → o < g
+    found_outer : (t : Outcome ℕ) → Ordered (volume_of ps v starts) (rows d c g) t → t ≡ Ok o → (o < length (rows d c g)) × (order_shells (volume_of ps v starts) (rows d c g) ≡ Ok (outer_of (rows d c g) o))
     unfolding Ordered
-    body_outer Fine p e = omega (arith, p.0, w.many, ap length (grouped_rows (named_shells fl ends) d₀ c₀ d c g w))
-    body_outer (Refused y) p e = absurd (let z : ◌≡◌ {A = ℕ} 0 1 = cc in omega arith)
+    found_outer t p e = subst (Ordered (volume_of ps v starts) (rows d c g)) e p
+
+    pub body_outer : (t : Outcome ℕ) → Ordered (volume_of ps v starts) (rows d c g) t → t ≡ Ok o → o < g
+    body_outer t p e = omega (arith, (found_outer t p e).0, w.many, ap length (grouped_rows (named_shells fl ends) d₀ c₀ d c g w))
 
     outer_long : (l : List (List ℕ)) → o < length l → length (outer_of l o) ≡ length l
     unfolding outer_of
@@ -112,13 +110,13 @@ module _ (v starts : List ℕ) (f : ℕ) (ends head next seen work fl d₀ c₀ 
       ap (λ n. length (joined (drop n l))) (add-one o),
     )
 
-    pub body_made : (t : Verdict) (x s : List ℕ) → Ordered (volume_of ps v starts) (rows d c g) t o → t ≡ Fine → x ≡ appended x₀ at (joined (outer_of (rows d c g) o)) → s ≡ appended s₀ sat (map length (outer_of (rows d c g) o)) →
-        Bodied (order_shells (volume_of ps v starts) (named_shells fl ends)) (length fl) x₀ s₀ at sat x s (record { verdict = Fine; facets = at + length fl; shells = sat + g })
-    unfolding Ordered Bodied
-    body_made (Refused y) x s p e q r = absurd (let z : ◌≡◌ {A = ℕ} 0 1 = cc in omega arith)
-    body_made Fine x s p e q r =
+    pub body_made : (t : Outcome ℕ) (x s : List ℕ) → Ordered (volume_of ps v starts) (rows d c g) t → t ≡ Ok o → x ≡ appended x₀ at (joined (outer_of (rows d c g) o)) → s ≡ appended s₀ sat (map length (outer_of (rows d c g) o)) →
+        Bodied (order_shells (volume_of ps v starts) (named_shells fl ends)) (length fl) x₀ s₀ at sat x s (Ok (record { facets = at + length fl; shells = sat + g }))
+    unfolding Bodied
+    body_made t x s y e q r =
+        let p = found_outer t y e in
         let same = grouped_rows (named_shells fl ends) d₀ c₀ d c g w in
         let n : length (joined (outer_of (rows d c g) o)) ≡ length fl = outer_joined (rows d c g) p.0 ∙ ap (λ l. length (joined l)) same ∙ size in
         let k : length (outer_of (rows d c g) o) ≡ g = outer_long (rows d c g) p.0 ∙ ap length same ∙ sym w.many in
-        subst (λ u. Bodied u (length fl) x₀ s₀ at sat x s (record { verdict = Fine; facets = at + length fl; shells = sat + g })) (sym p.1 ∙ ap (order_shells (volume_of ps v starts)) same)
-        (ap₂ (λ a b. record { verdict = Fine; facets = at + a; shells = sat + b }) (sym n) (sym k), q, r, n, omega (arith, few_shells, k))
+        subst (λ u. Bodied u (length fl) x₀ s₀ at sat x s (Ok (record { facets = at + length fl; shells = sat + g }))) (sym p.1 ∙ ap (order_shells (volume_of ps v starts)) same)
+        (ap₂ (λ a b. Ok (record { facets = at + a; shells = sat + b })) (sym n) (sym k), q, r, n, omega (arith, few_shells, k))

@@ -1,25 +1,21 @@
 -- One body: its facets, its edges, then its shells.
-use Rattle.std.specs.Prelude.{◌≡◌, refl, ℕ, zero, suc, ◌+◌, ◌-◌, ◌*◌, ◌≤◌, ◌<◌, Float, length, take, drop}
+use Rattle.std.specs.Prelude.{◌≡◌, refl, ℕ, zero, suc, ◌+◌, ◌*◌, ◌≤◌, ◌<◌, Float, length, take, Ok, Err}
 use Rattle.std.proofs.Common.{sym, ap₂, ◌∙◌, subst, arith, length-append, length-take-le}
 use Rattle.std.proofs.Math.Path.{ap}
-use mathlib.Core.List.{List, [], ◌∷◌, ◌++◌, map}
+use mathlib.Core.List.{List, [], ◌∷◌, map}
 use Rattle.std.proofs.Math.ListN.{get_or}
 use Rattle.std.proofs.lemmas.List.{length-map}
-use Rattle.std.proofs.Math.Seq.{slice, length-slice}
 use Rattle.refusal.specs.declared.Refusal.{Refusal}
-use Rattle.refusal.specs.declared.Verdict.{Verdict}
-use Rattle.refusal.specs.declared.Verdict.TheVariants.{Fine, Refused}
-use Rattle.refusal.specs.Outcome.{Outcome, ok, refused, then, heard}
-use Rattle.refusal.specs.Laws.{stop, go}
+use Rattle.refusal.specs.Outcome.{Outcome, verdict_of}
+use Rattle.refusal.specs.Laws.{stop, go, same_ok, never_ok}
 use Rattle.lists.specs.Walks.{cyclic}
-use Rattle.lists.specs.Laws.{length_cyclic}
-use Rattle.sums.specs.Sum.{sum, occ, pick, Each}
+use Rattle.sums.specs.Sum.{occ, Each}
 use Rattle.sums.specs.Keys.{put, keep, pairs}
 use Rattle.sums.specs.KeyLaws.{Sharing}
 use Rattle.sums.proofs.KeyLaws.{each_append, each_map, each_all, each_imp, each_get_d, pairs_each}
 use Rattle.sums.specs.Components.{components}
 use Rattle.keys.specs.Rows.{Starts, row}
-use Rattle.groups.specs.Groups.{Within, joins_of}
+use Rattle.groups.specs.Groups.{Within}
 use Rattle.groups.specs.Ends.{ends_of, joins_ends, within_ends}
 use Rattle.bodies.specs.Fusing as F
 use Rattle.bodies.proofs.Full.{each_kept}
@@ -31,9 +27,8 @@ use Rattle.edges.specs.Pairing.{Edged}
 use Rattle.shells.specs.Faces.{Owned}
 use Rattle.shells.specs.Named.{name_in}
 use Rattle.cavities.specs.Steps.{volume_of}
-use Rattle.fusing.specs.declared.Made.{Made}
 use Rattle.fusing.specs.declared.Bordered.{Bordered}
-use Rattle.fusing.specs.Bodied.{Bodied, Faced, named_shells}
+use Rattle.fusing.specs.Bodied.{named_shells}
 
 -- the facets of the body of some cells, by the slices
 abbrev pub faces_by : List ℕ → List ℕ → List ℕ → List ℕ
@@ -122,12 +117,12 @@ module _ (ps : List Float) (v starts owners : List ℕ) (f : ℕ) (x g : List �
       ∙ ap (λ adj. map (map (name_in (faces_by owners x g))) (components (length (faces_by owners x g)) adj)) (sym (joins_ends (F.edges (row_runs v starts 0 (faces_by owners x g)))))
 
   -- refused by its edges
-  pub body_stopped : (r : Refusal) → F.check_edges (row_runs v starts 0 (faces_by owners x g)) ≡ refused r → F.body_of (volume_of ps v starts) (facets_of v starts owners f) g ≡ refused r
+  pub body_stopped : (r : Refusal) → F.check_edges (row_runs v starts 0 (faces_by owners x g)) ≡ Err r → F.body_of (volume_of ps v starts) (facets_of v starts owners f) g ≡ Err r
   unfolding F.body_of
   body_stopped r e = stop (F.check_edges (F.runs (facets_of v starts owners f) 0 (F.faces_of (facets_of v starts owners f) g))) (λ _. F.order_shells (volume_of ps v starts) (F.shells_of (facets_of v starts owners f) g)) r (edges_are ∙ e)
 
   -- or as its shells are ordered
-  pub body_goes : F.check_edges (row_runs v starts 0 (faces_by owners x g)) ≡ ok tt →
+  pub body_goes : F.check_edges (row_runs v starts 0 (faces_by owners x g)) ≡ Ok tt →
       F.body_of (volume_of ps v starts) (facets_of v starts owners f) g ≡ F.order_shells (volume_of ps v starts) (named_shells (faces_by owners x g) (ends_of (F.edges (row_runs v starts 0 (faces_by owners x g)))))
   unfolding F.body_of
   body_goes e = go (F.check_edges (F.runs (facets_of v starts owners f) 0 (F.faces_of (facets_of v starts owners f) g))) (λ _. F.order_shells (volume_of ps v starts) (F.shells_of (facets_of v starts owners f) g)) tt (edges_are ∙ e) ∙ ap (F.order_shells (volume_of ps v starts)) shells_are
@@ -137,13 +132,14 @@ module _ (ps : List Float) (v starts owners : List ℕ) (f : ℕ) (x g : List �
 pub border_size : (x fl₀ fl : List ℕ) (m : ℕ) → m ≤ length x → length x ≤ length fl₀ → length fl ≡ length fl₀ → length (take m fl) ≡ m
 border_size x fl₀ fl m h l e = length-take-le m fl (omega arith)
 
--- The facets of the body, and what its edges say: their verdict, and where it is fine the pairs of neighbours.
-pub record Bordering (v starts owners x g : List ℕ) (fl e : List ℕ) (r : Bordered) : Type 0 where
-  pub few : r.faces ≤ length x
-  pub faces : take r.faces fl ≡ faces_by owners x g
-  pub told : heard r.verdict tt ≡ F.check_edges (row_runs v starts 0 (faces_by owners x g))
-  pub paired : r.verdict ≡ Fine → take (2 * r.pairs) e ≡ ends_of (F.edges (row_runs v starts 0 (faces_by owners x g)))
-  pub half : r.verdict ≡ Fine → 2 * r.pairs ≤ length e
+-- The facets of the body stand in front; its edges are refused, or there are the pairs of neighbours.
+pub record Bordering (v starts owners x g : List ℕ) (fl e : List ℕ) (r : Outcome Bordered) : Type 0 where
+  pub few : length (faces_by owners x g) ≤ length x
+  pub faces : take (length (faces_by owners x g)) fl ≡ faces_by owners x g
+  pub told : verdict_of r ≡ F.check_edges (row_runs v starts 0 (faces_by owners x g))
+  pub counted : (b : Bordered) → r ≡ Ok b → b.faces ≡ length (faces_by owners x g)
+  pub paired : (b : Bordered) → r ≡ Ok b → take (2 * b.pairs) e ≡ ends_of (F.edges (row_runs v starts 0 (faces_by owners x g)))
+  pub half : (b : Bordered) → r ≡ Ok b → 2 * b.pairs ≤ length e
 
 module _ (v starts owners : List ℕ) (f : ℕ) (x g l : List ℕ) (q : Owned owners f x) (made : l ≡ faces_by owners x g) where
   pub border_listed : Starts v starts f → Listed v starts f l
@@ -157,8 +153,35 @@ module _ (v starts owners : List ℕ) (f : ℕ) (x g l : List ℕ) (q : Owned ow
       let n : length (row_runs v starts 0 l) ≤ length (row_runs v starts 0 x) = rw made (fewer_runs v starts (λ i. occ (get_or owners i 0) g) 0 x) in
       record { runs = omega (arith, w.runs); keys = omega (arith, w.keys); begins = omega (arith, w.begins); order = omega (arith, w.order); ends = omega (arith, w.ends) }
 
-pub bordered : (v starts owners x g fl : List ℕ) (m : ℕ) (e : List ℕ) (p : Paired) → take m fl ≡ faces_by owners x g → m ≤ length x → Edged (row_runs v starts 0 (take m fl)) e p →
-    Bordering v starts owners x g fl e (record { verdict = p.verdict; faces = m; pairs = p.pairs })
-bordered v starts owners x g fl m e p made h w =
-    let w' : Edged (row_runs v starts 0 (faces_by owners x g)) e p = subst (λ l. Edged (row_runs v starts 0 l) e p) made w in
-    record { few = h; faces = made; told = w'.told; paired = w'.paired; half = w'.half }
+module _ (v starts owners x g fl₀ fl : List ℕ) (m : ℕ) (e : List ℕ) (o : Outcome Paired) (made : take m fl ≡ faces_by owners x g) (h : m ≤ length x) (room : length x ≤ length fl₀) (same : length fl ≡ length fl₀)
+    (w : Edged (row_runs v starts 0 (take m fl)) e o) where
+  size : m ≡ length (faces_by owners x g)
+  size = sym (border_size x fl₀ fl m h room same) ∙ ap length made
+
+  front : take (length (faces_by owners x g)) fl ≡ faces_by owners x g
+  front = ap (λ n. take n fl) (sym size) ∙ made
+
+  edged : Edged (row_runs v starts 0 (faces_by owners x g)) e o
+  edged = subst (λ l. Edged (row_runs v starts 0 l) e o) made w
+
+  pub bordered : (p : Paired) → o ≡ Ok p → Bordering v starts owners x g fl e (Ok (record { faces = m; pairs = p.pairs }))
+  unfolding verdict_of
+  bordered p z = record {
+    few = omega (arith, size);
+    faces = front;
+    told = sym (ap verdict_of z) ∙ edged.told;
+    counted = λ b y. ap (λ b. b.faces) (sym (same_ok y)) ∙ size;
+    paired = λ b y. ap (λ b. take (2 * b.pairs) e) (sym (same_ok y)) ∙ edged.paired p z;
+    half = λ b y. omega (arith, ap (λ b. b.pairs) (same_ok y), edged.half p z);
+  }
+
+  pub border_refused : (r : Refusal) (u : Outcome Bordered) → o ≡ Err r → u ≡ Err r → Bordering v starts owners x g fl e u
+  unfolding verdict_of
+  border_refused r u z y = record {
+    few = omega (arith, size);
+    faces = front;
+    told = ap verdict_of y ∙ sym (ap verdict_of z) ∙ edged.told;
+    counted = λ b k. never_ok (sym y ∙ k);
+    paired = λ b k. never_ok (sym y ∙ k);
+    half = λ b k. never_ok (sym y ∙ k);
+  }

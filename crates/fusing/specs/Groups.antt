@@ -1,10 +1,9 @@
 -- Groups one after another are rows of a slice.
-use Rattle.std.specs.Prelude.{◌≡◌, refl, List, [], ◌∷◌, ◌++◌, map, ℕ, zero, suc, ◌+◌, ◌-◌, ◌≤◌, ◌<◌, get_or, take, drop}
-use Rattle.std.proofs.Common.{sym, ap₂, ◌∙◌, subst, append_assoc, append-nil, arith, add-one, take-suc, take_all, take_at, drop_at, ext_get_or}
+use Rattle.std.specs.Prelude.{◌≡◌, refl, List, [], ◌∷◌, ◌++◌, ℕ, zero, suc, ◌+◌, ◌≤◌, ◌<◌, get_or, take, drop}
+use Rattle.std.proofs.Common.{sym, ap₂, ◌∙◌, append_assoc, arith, add-one, take-suc, take_all, take_at, drop_at, ext_get_or}
 use Rattle.std.proofs.Math.Path.{ap}
 use Rattle.std.proofs.Math.ListN.{length, length-append, get_or-append}
-use Rattle.std.proofs.Math.Seq.{slice, take-append-add}
-use Rattle.sums.specs.Sum.{Each}
+use Rattle.std.proofs.Math.Seq.{slice}
 use Rattle.keys.specs.Rows.{Starts, row, rows, row_at, length_rows}
 use Rattle.groups.specs.Groups.{joined, bounds, Grouped, length_bounds}
 use Rattle.listing.specs.Listed.{joined_both, joined_one}

@@ -14,20 +14,18 @@ ghost use Rattle.fusing.specs.Bodied.{Bodied, Faced, named_shells};
 ghost use Rattle.fusing.specs.Body.{Bordering};
 ghost use Rattle.fusing.specs.Bench.{Cycles, Bench};
 
-use refusal::{Refusal, Verdict};
+use refusal::Refusal;
 
-// A body's verdict, and how many facets and shells are written behind it.
+// How many facets and shells are written behind a body.
 #[derive(Clone, Copy)]
 pub struct Made {
-    pub verdict: Verdict,
     pub facets: usize,
     pub shells: usize,
 }
 
-// The edges of a body: their verdict, and how many facets it has and pairs of neighbours.
+// How many facets a body has, and pairs of neighbours.
 #[derive(Clone, Copy)]
 pub struct Bordered {
-    pub verdict: Verdict,
     pub faces: usize,
     pub pairs: usize,
 }
@@ -46,19 +44,17 @@ fn body_edges(
     s: &mut [u64],
     ord: &mut [u64],
     ends: &mut [u64],
-) -> Bordered
+) -> Result<Bordered, Refusal>
     requires starts { Starts v.now starts.now f × Owned owners.now f ext.now × (length ext.now ≤ length faces.old) }
     requires room { Room v.now starts.now ext.now d.old k.old s.old ord.old ends.old }
     ensures { Bordering v.now starts.now owners.now ext.now cells.now faces.new ends.new result }
 {
     let m = shells::body_faces(owners, f, ext, cells, faces);
-    let p = edges::check_edges(v, starts, f, &faces[..m], d, k, s, ord, ends);
-    let verdict = p.verdict;
-    Bordered {
-        verdict,
+    let p = edges::check_edges(v, starts, f, &faces[..m], d, k, s, ord, ends)?;
+    Ok(Bordered {
         faces: m,
         pairs: p.pairs,
-    }
+    })
 }
 
 // The shells of a body in order: its facets go to `out` from `at` on, how many each shell has to `sizes` from `sat` on.
@@ -79,30 +75,20 @@ fn order_body(
     at: usize,
     sizes: &mut [u64],
     sat: usize,
-) -> Made
+) -> Result<Made, Refusal>
     requires points { Points points.now v.now × Faced v.now starts.now f faces.now }
     requires spread { Spread ends.now head.old next.old seen.old work.old faces.now nodes.old cuts.old }
     requires faces_in_bounds { (at + length faces.now ≤ length out.old) × (sat + length faces.now ≤ length sizes.old) }
     ensures { Bodied (order_shells (volume_of points.now v.now starts.now) (named_shells faces.now ends.now)) (length faces.now) out.old sizes.old at sat out.new sizes.new result }
 {
     let g = shells::find_shells(ends, head, next, seen, work, faces, nodes, cuts);
-    let t = cavities::find_outer(points, v, starts, f, nodes, cuts, g);
-    let verdict = t.verdict;
-    let o = t.outer;
-    let Verdict::Fine = verdict else {
-        return Made {
-            verdict,
-            facets: at,
-            shells: sat,
-        };
-    };
+    let o = cavities::find_outer(points, v, starts, f, nodes, cuts, g)?;
     listing::list_facets(nodes, cuts, g, o, out, at);
     listing::list_sizes(nodes, cuts, g, o, sizes, sat);
-    Made {
-        verdict: Verdict::Fine,
+    Ok(Made {
         facets: at + faces.len(),
         shells: sat + g,
-    }
+    })
 }
 
 // The body of some cells: `ext` lists the facets of one cell alone. Its facets go to `out` from `at` on, how many each shell has to
@@ -127,23 +113,15 @@ pub fn fuse_body(
     at: usize,
     sizes: &mut [u64],
     sat: usize,
-) -> Made
+) -> Result<Made, Refusal>
     requires points { Points points.now v.now × Cycles v.now starts.now f × (f ≤ length owners.now) × (ext.now ≡ exterior (facets_of v.now starts.now owners.now f)) }
     requires bench { Bench v.now f faces.old d.old k.old s.old ord.old ends.old nodes.old cuts.old }
     requires cells_in_bounds { (at + length (faces_of (facets_of v.now starts.now owners.now f) cells.now) ≤ length out.old) × (sat + length (faces_of (facets_of v.now starts.now owners.now f) cells.now) ≤ length sizes.old) }
     ensures { Bodied (body_of (volume_of points.now v.now starts.now) (facets_of v.now starts.now owners.now f) cells.now) (length (faces_of (facets_of v.now starts.now owners.now f) cells.now)) out.old sizes.old at sat out.new sizes.new result }
 {
-    let b = body_edges(v, starts, owners, f, ext, cells, faces, d, k, s, ord, ends);
-    let verdict = b.verdict;
+    let b = body_edges(v, starts, owners, f, ext, cells, faces, d, k, s, ord, ends)?;
     let m = b.faces;
     let p = b.pairs;
-    let Verdict::Fine = verdict else {
-        return Made {
-            verdict,
-            facets: at,
-            shells: sat,
-        };
-    };
     order_body(
         points,
         v,

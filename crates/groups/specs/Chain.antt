@@ -1,14 +1,14 @@
 -- The places of each node among the ends of pairs, as chains in two slices.
 use Rattle.std.specs.Prelude.{◌≡◌, ◌⊎◌, ◌≢◌, length, set, drop, replicate}
 use Rattle.std.proofs.Math.Path.{refl, ap, ap₂, subst}
-use Rattle.std.proofs.Common.{sym, ◌∙◌, inl, inr, ⊎_elim, drop-cons}
+use Rattle.std.proofs.Common.{sym, ◌∙◌, inl, inr, drop-cons}
 use mathlib.Core.List.{List, [], ◌∷◌, map}
 use Prim.Native.Nat.{ℕ, zero, suc, ◌+◌, ◌-◌, ◌*◌, ◌/◌, ◌%◌, ◌≤◌, ◌<◌}
 use native.Mathlib.Omega.{arith}
 use Rattle.std.proofs.Math.ListN.{get_or, length-set}
 use Rattle.std.proofs.lemmas.List.{length-replicate, get_or-replicate}
 use Rattle.std.proofs.Math.Seq.{get_or-set_same, get_or-set_other}
-use Rattle.sums.specs.Sum.{hit, hit_same, hit_cases}
+use Rattle.sums.specs.Sum.{hit, hit_cases}
 use Rattle.sums.specs.Keys.{put, keep, nbr, nbrs}
 
 -- the other place of the same pair

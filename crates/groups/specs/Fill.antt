@@ -1,5 +1,5 @@
 -- A slice filled with one number.
-use Rattle.std.specs.Prelude.{◌≡◌, refl, List, [], ◌∷◌, ◌++◌, ℕ, zero, suc, ◌+◌, ◌≤◌, ◌<◌, length, get_or, set, drop, replicate}
+use Rattle.std.specs.Prelude.{◌≡◌, refl, List, ◌∷◌, ◌++◌, ℕ, zero, suc, ◌+◌, ◌≤◌, ◌<◌, length, get_or, set, drop, replicate}
 use Rattle.std.proofs.Common.{sym, ap, ◌∙◌, append-nil, arith, add-one, length-set, drop-cons}
 use Rattle.std.proofs.lemmas.List.{length-replicate, set_at}
 use Rattle.std.proofs.Math.Seq.{drop-length}

@@ -1,11 +1,11 @@
 -- The groups in slices.
-use Rattle.std.specs.Prelude.{◌≡◌, ◌≢◌, List, [], ◌∷◌, ◌++◌, ℕ, zero, suc, ◌+◌, ◌-◌, ◌*◌, ◌/◌, ◌≤◌, ◌<◌, get_or, set, replicate}
+use Rattle.std.specs.Prelude.{◌≡◌, ◌≢◌, List, [], ◌∷◌, ◌++◌, ℕ, zero, suc, ◌+◌, ◌*◌, ◌/◌, ◌≤◌, ◌<◌, get_or, set, replicate}
 use Rattle.std.proofs.Math.Path.{refl, sym, ap, ap₂}
-use Rattle.std.proofs.Common.{◌∙◌, subst, append_assoc, append-nil, arith, add_assoc, take-append-drop, drop-cons, get_or-take, take-take, take_at, drop_at, length-take-le}
+use Rattle.std.proofs.Common.{◌∙◌, subst, append_assoc, append-nil, arith, take-append-drop}
 use Rattle.std.proofs.Math.Numerals.{add-one}
 use Rattle.std.proofs.Math.ListN.{length, take, drop, length-set, length-append}
-use Rattle.std.proofs.lemmas.List.{length-replicate, set_at}
-use Rattle.std.proofs.Math.Seq.{drop-length, get_or-set_same, drop-set-lt, take-suc-set}
+use Rattle.std.proofs.lemmas.List.{length-replicate}
+use Rattle.std.proofs.Math.Seq.{get_or-set_same, drop-set-lt, take-suc-set}
 use Rattle.sums.specs.Sum.{sum, open', open_le, flagged_one, sum_one, flagged}
 use Rattle.sums.specs.Components.{Got, start, gather, comps, components}
 use Rattle.sums.proofs.ComponentLaws.{comps_new, comps_old, root_weight, root_size}

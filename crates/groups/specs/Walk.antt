@@ -1,8 +1,8 @@
 -- The walk from a root, in slices.
-use Rattle.std.specs.Prelude.{◌≡◌, refl, List, [], ◌∷◌, ◌++◌, ℕ, zero, suc, ◌+◌, ◌-◌, ◌≤◌, ◌<◌, length, get_or, set, take, drop}
-use Rattle.std.proofs.Common.{sym, ap, ◌∙◌, append_assoc, append-nil, arith, add-one, length-set, length-append, take-suc-set, drop-set-lt, get_or-set_same, drop-drop}
+use Rattle.std.specs.Prelude.{◌≡◌, refl, List, ◌++◌, ℕ, zero, suc, ◌+◌, ◌-◌, ◌≤◌, ◌<◌, length, get_or, set, take, drop}
+use Rattle.std.proofs.Common.{sym, ap, ◌∙◌, append_assoc, append-nil, arith, add-one, length-set, take-suc-set, drop-set-lt, get_or-set_same, drop-drop}
 use Rattle.sums.specs.Sum.{sum, open', closed_set, open_le}
-use Rattle.sums.specs.Components.{St, Got, grown, start, gather, visits}
+use Rattle.sums.specs.Components.{Got, start, gather, visits}
 use Rattle.sums.proofs.ComponentLaws.{visits_keep}
 use Rattle.groups.specs.Stack.{stack, state, Room, After, get_d_any}
 

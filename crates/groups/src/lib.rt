@@ -10,25 +10,12 @@ ghost use Rattle.groups.specs.Stack.{state, Room, After, Net};
 ghost use Rattle.groups.specs.Walk.{Walked};
 ghost use Rattle.groups.specs.Groups.{Rooted, Roots, Within, Grouped, Cleared, joins_of};
 
-// Every entry x.
-fn fill(s: &mut [u64], x: u64)
-    ensures { s.new ≡ replicate (length s.old) x }
-{
-    let mut i = 0;
-    while i < s.len() {
-        s[i] = x;
-        i += 1;
-    }
-}
-
 // The places of each node, in ascending order; `head` holds `all` throughout before.
 fn link(ends: &[u64], all: usize, head: &mut [u64], next: &mut [u64])
     requires { Inside ends.now all (length head.old) × (all ≤ length next.old) × (head.old ≡ replicate (length head.old) all) }
     ensures { Linked ends.now all head.old next.old head.new next.new }
 {
-    let mut e = all;
-    while e > 0 {
-        e -= 1;
+    for e in (0..all).rev() {
         let c = ends[e] as usize;
         let h = head[c];
         next[e] = h;
@@ -67,6 +54,7 @@ fn spread(
 {
     let mut t = top;
     let mut e = head[i] as usize;
+    // e goes from each place to the next one of the chain, so this is no counting loop.
     while e < all {
         let j = ends[e + 1 - 2 * (e % 2)] as usize;
         t = visit_node(seen, work, t, j);
@@ -95,6 +83,7 @@ fn walk_from(
     work[0] = root as u64;
     let mut top = 1;
     let mut p = at;
+    // The stack grows and shrinks until it is empty, so this is no counting loop.
     while top > 0 {
         top -= 1;
         let i = work[top] as usize;
@@ -147,20 +136,19 @@ fn all_roots(
     ensures { Grouped (components (length seen.old) (around ends.now all)) nodes.old cuts.old nodes.new cuts.new result }
 {
     let mut m = 0;
-    let mut r = 0;
-    while r < seen.len() {
+    for r in 0..seen.len() {
         m = root_step(ends, all, head, next, r, seen, work, nodes, cuts, m);
-        r += 1;
     }
     m
 }
 
 // The chains of all nodes.
+#[tactic(auto, using(crate::specs::Chain::filled_inside, crate::specs::Chain::filled_same))]
 fn chains(ends: &[u64], all: usize, head: &mut [u64], next: &mut [u64])
     requires { Inside ends.now all (length head.old) × (all ≤ length next.old) }
     ensures { Linked ends.now all head.old next.old head.new next.new }
 {
-    fill(head, all as u64);
+    head.fill(all as u64);
     link(ends, all, head, next);
 }
 
@@ -168,10 +156,10 @@ fn chains(ends: &[u64], all: usize, head: &mut [u64], next: &mut [u64])
 fn clear_four(a: &mut [u64], b: &mut [u64], c: &mut [u64], d: &mut [u64])
     ensures { Cleared a.old b.old c.old d.old a.new b.new c.new d.new }
 {
-    fill(a, 0);
-    fill(b, 0);
-    fill(c, 0);
-    fill(d, 0);
+    a.fill(0);
+    b.fill(0);
+    c.fill(0);
+    d.fill(0);
 }
 
 // The connected classes of the nodes below seen.len(), in the order and by the last-in-first-out walk of fuse.rs. They stand in
@@ -192,7 +180,7 @@ pub fn components(
 {
     let all = ends.len() / 2 * 2;
     chains(ends, all, head, next);
-    fill(seen, 0);
+    seen.fill(0);
     cuts[0] = 0;
     let m = all_roots(ends, all, head, next, seen, work, nodes, cuts);
     clear_four(head, next, seen, work);

@@ -1,10 +1,8 @@
 -- The hollow solid: 28; the solid; its offset; the inner solid built; 7, 29; 5; 12. Definitions only.
-use Rattle.std.specs.Prelude.{ℕ, ◌+◌, Bool, true, not, ◌&&◌, cond, [], reverse, ltb, Float}
+use Rattle.std.specs.Prelude.{ℕ, ◌+◌, Bool, true, not, ◌&&◌, cond, [], reverse, ltb, Float, Ok, Err}
 use Rattle.std.specs.Float.Ieee.{neg}
 use Rattle.float.specs.Float.{finite}
-use Rattle.refusal.specs.declared.Verdict.{Verdict}
-use Rattle.refusal.specs.declared.Verdict.TheVariants.{Fine, Refused}
-use Rattle.refusal.specs.Outcome.{Outcome, ok, refusal_of, then, unless, each, heard}
+use Rattle.refusal.specs.Outcome.{Outcome, refusal_of, then, unless, each, heard}
 use Rattle.interval.specs.Ends.{point_i, sub_i, sign_of}
 use Rattle.space.specs.declared.Precision.{Precision}
 use Rattle.space.specs.Shapes.{Face, Cell, corners}
@@ -18,7 +16,7 @@ thick t w = finite w && is_positive (sign_of (sub_i (point_i w) (point_i t.linea
 
 -- "A reversed facet has its corners reversed and the opposite plane"
 unfoldable pub reversed_face : Precision → Face → Outcome Face
-reversed_face t f = then (opposite_of t f.plane) (λ w. ok (record { plane = w; points = reverse f.points }))
+reversed_face t f = then (opposite_of t f.plane) (λ w. Ok (record { plane = w; points = reverse f.points }))
 
 -- "In the hollow solid the outer shell precedes the inner"
 pub record Hollow : Type 0 where
@@ -26,8 +24,8 @@ pub record Hollow : Type 0 where
   pub inner : Cell
 
 -- 12: "last of all when the finished answer has more"
-unfoldable pub room_for : ℕ → ℕ → Verdict
-room_for room n = cond (ltb room n) (Refused (refusal_of 12)) Fine
+unfoldable pub room_for : ℕ → ℕ → Outcome Unit
+room_for room n = cond (ltb room n) (Err (refusal_of 12)) (Ok tt)
 
 unfoldable pub hollow_room : ℕ → Hollow → Outcome Hollow
 hollow_room room h = heard (room_for room (corners 0 h.outer + corners 0 h.inner)) h

@@ -1,14 +1,12 @@
 -- Laws of the hollow solid's parts, in the words of the code.
-use Rattle.std.specs.Prelude.{◌≡◌, true, ℕ, suc, ◌+◌, ◌-◌, ◌*◌, ◌≤◌, ◌<◌, take, drop, get_or, set, Float}
+use Rattle.std.specs.Prelude.{◌≡◌, true, ℕ, suc, ◌+◌, ◌-◌, ◌*◌, ◌≤◌, ◌<◌, take, drop, get_or, set, Float, Ok, Err}
 use Rattle.std.proofs.Math.Path.{refl, sym, ap, subst}
 use Rattle.std.proofs.Common.{◌∙◌, arith, take-suc, take_all, lt-ltb, le-ltb}
 use mathlib.Core.List.{List, [], ◌∷◌, ◌++◌, reverse, reverse_aux, reverse-append}
 use Rattle.std.proofs.Math.ListN.{length}
 use Rattle.std.proofs.Math.Seq.{sets, length-sets}
 use Rattle.refusal.specs.declared.Refusal.{Refusal}
-use Rattle.refusal.specs.declared.Verdict.{Verdict}
-use Rattle.refusal.specs.declared.Verdict.TheVariants as D
-use Rattle.refusal.specs.Outcome.{Outcome, ok, refused, refusal_of, then, each, heard}
+use Rattle.refusal.specs.Outcome.{Outcome, refusal_of, then, each, heard}
 use Rattle.refusal.specs.Laws.{stop, go, same_ok, then_ok}
 use Rattle.lists.specs.Laws.{cond_yes, cond_no}
 use Rattle.space.specs.declared.Point3.{Point3}
@@ -76,21 +74,21 @@ module _ {s : List Float} {at n : ℕ} {d₀ : List Float} {to : ℕ} {d : List 
 
 -- ---- one face
 
-module _ (t : Precision) (f : Face) (to : ℕ) (d₀ d : List Float) (v : Verdict) where
-  pub face_reversed : (w : Plane) (e : List Float) → opposite_of t f.plane ≡ ok w → v ≡ D.Fine → e ≡ sets d₀ to (plane_floats w) → d ≡ sets e (to + 13) (floats_of (reverse f.points)) → FaceMoved (reversed_face t f) to d₀ d v
+module _ (t : Precision) (f : Face) (to : ℕ) (d₀ d : List Float) (v : Outcome Unit) where
+  pub face_reversed : (w : Plane) (e : List Float) → opposite_of t f.plane ≡ Ok w → v ≡ Ok tt → e ≡ sets d₀ to (plane_floats w) → d ≡ sets e (to + 13) (floats_of (reverse f.points)) → FaceMoved (reversed_face t f) to d₀ d v
   unfolding reversed_face FaceMoved
   face_reversed w e p u g h =
-      subst (λ y. FaceMoved (then y (λ w. ok (record { plane = w; points = reverse f.points }))) to d₀ d v) (sym p)
+      subst (λ y. FaceMoved (then y (λ w. Ok (record { plane = w; points = reverse f.points }))) to d₀ d v) (sym p)
       (u, h ∙ ap (λ y. sets y (to + 13) (floats_of (reverse f.points))) g ∙ sets_append d₀ to (plane_floats w) (floats_of (reverse f.points)))
 
-  pub face_stays : (r : Refusal) → opposite_of t f.plane ≡ refused r → v ≡ D.Refused r → length d ≡ length d₀ → FaceMoved (reversed_face t f) to d₀ d v
+  pub face_stays : (r : Refusal) → opposite_of t f.plane ≡ Err r → v ≡ Err r → length d ≡ length d₀ → FaceMoved (reversed_face t f) to d₀ d v
   unfolding reversed_face FaceMoved
-  face_stays r p u s = subst (λ y. FaceMoved (then y (λ w. ok (record { plane = w; points = reverse f.points }))) to d₀ d v) (sym p) (u, s)
+  face_stays r p u s = subst (λ y. FaceMoved (then y (λ w. Ok (record { plane = w; points = reverse f.points }))) to d₀ d v) (sym p) (u, s)
 
-pub reversed_corners : (t : Precision) (f g : Face) → reversed_face t f ≡ ok g → length g.points ≡ length f.points
+pub reversed_corners : (t : Precision) (f g : Face) → reversed_face t f ≡ Ok g → length g.points ≡ length f.points
 unfolding reversed_face
 reversed_corners t f g e =
-    let h = then_ok (opposite_of t f.plane) (λ w. ok (record { plane = w; points = reverse f.points })) g e in
+    let h = then_ok (opposite_of t f.plane) (λ w. Ok (record { plane = w; points = reverse f.points })) g e in
     ap (λ y. length y.points) (sym (same_ok h.2)) ∙ length_turned f.points [] ∙ omega arith
 
 -- ---- the faces of a cell
@@ -112,21 +110,21 @@ module _ {t : Precision} {s : List Float} {from : ℕ} {counts : List ℕ} {firs
     pub reversing_fits : q + 13 + 3 * get_or counts (first + j) 0 ≤ length d
     reversing_fits = listing_fits I.listing given.listed h
 
-    sized : (g : Face) → reversed_face t (face_at s o (get_or counts (first + j) 0)) ≡ ok g → length g.points ≡ get_or counts (first + j) 0
+    sized : (g : Face) → reversed_face t (face_at s o (get_or counts (first + j) 0)) ≡ Ok g → length g.points ≡ get_or counts (first + j) 0
     sized g e = reversed_corners t (face_at s o (get_or counts (first + j) 0)) g e ∙ length_points_at s (o + 13) (get_or counts (first + j) 0)
 
-    pub reversing_step : (d' : List Float) (ns' : List ℕ) (v : Verdict) → FaceMoved (reversed_face t (face_at s o (get_or counts (first + j) 0))) q d d' v → v ≡ D.Fine → ns' ≡ set ns (k + j) (get_or counts (first + j) 0) →
+    pub reversing_step : (d' : List Float) (ns' : List ℕ) (v : Outcome Unit) → FaceMoved (reversed_face t (face_at s o (get_or counts (first + j) 0))) q d d' v → v ≡ Ok tt → ns' ≡ set ns (k + j) (get_or counts (first + j) 0) →
         Reversing t s from counts first n d₀ to n₀ k d' ns' (o + 13 + 3 * get_or counts (first + j) 0) (q + 13 + 3 * get_or counts (first + j) 0) (j + 1)
     reversing_step d' ns' v m e u = record {
       ahead = ahead_next s counts first n o j given.listed h I.ahead;
       listing = listing_step I.listing given.listed h (face_at s o (get_or counts (first + j) 0)) _ d' ns' v (ahead_face s counts first n o j given.listed h I.ahead) m e sized u;
     }
 
-    pub reversing_stop : (d' : List Float) (v v' : Verdict) (r : Refusal) → FaceMoved (reversed_face t (face_at s o (get_or counts (first + j) 0))) q d d' v → v ≡ D.Refused r → v' ≡ D.Refused r →
+    pub reversing_stop : (d' : List Float) (v v' : Outcome Unit) (r : Refusal) → FaceMoved (reversed_face t (face_at s o (get_or counts (first + j) 0))) q d d' v → v ≡ Err r → v' ≡ Err r →
         CellMoved (each (reversed_face t) [] (cell_at s from (counts_at counts first n))) n d₀ to n₀ k d' ns v'
     reversing_stop d' v v' r m e e' = listing_stop I.listing given.listed h (face_at s o (get_or counts (first + j) 0)) _ d' v v' r (ahead_face s counts first n o j given.listed h I.ahead) m e e'
 
-  pub reversing_end : (v : Verdict) → n ≤ j → v ≡ D.Fine → CellMoved (each (reversed_face t) [] (cell_at s from (counts_at counts first n))) n d₀ to n₀ k d ns v
+  pub reversing_end : (v : Outcome Unit) → n ≤ j → v ≡ Ok tt → CellMoved (each (reversed_face t) [] (cell_at s from (counts_at counts first n))) n d₀ to n₀ k d ns v
   reversing_end v h e = listing_end I.listing v h I.ahead.upto (ahead_done s counts first n o j h) e
 
 -- ---- how many corners
@@ -171,52 +169,52 @@ pub place_at : (counts : List ℕ) (first n : ℕ) (d : List Float) (to faces : 
     Place counts first n d (to + 13 * faces + 3 * x) sizes k
 place_at counts first n d to faces c sizes k x e p = subst (λ y. Place counts first n d (to + 13 * faces + 3 * y) sizes k) (sym e) p
 
-pub moved_at : (o : Outcome Cell) (n : ℕ) (d₀ : List Float) (to faces : ℕ) (n₀ : List ℕ) (k : ℕ) (d : List Float) (ns : List ℕ) (v : Verdict) (c : Cell) (x : ℕ) → x ≡ corners 0 c →
+pub moved_at : (o : Outcome Cell) (n : ℕ) (d₀ : List Float) (to faces : ℕ) (n₀ : List ℕ) (k : ℕ) (d : List Float) (ns : List ℕ) (v : Outcome Unit) (c : Cell) (x : ℕ) → x ≡ corners 0 c →
     CellMoved o n d₀ (to + 13 * faces + 3 * x) n₀ k d ns v → CellMoved o n d₀ (behind to faces c) n₀ k d ns v
 moved_at o n d₀ to faces n₀ k d ns v c x e m = subst (λ y. CellMoved o n d₀ (to + 13 * faces + 3 * y) n₀ k d ns v) e m
 
 -- 12, or not
-pub room_full : (room n : ℕ) (r : Refusal) → room < n → r ≡ refusal_of 12 → D.Refused r ≡ room_for room n
+pub room_full : (room n : ℕ) (r : Refusal) → room < n → r ≡ refusal_of 12 → Err r ≡ room_for room n
 unfolding room_for
-room_full room n r h e = ap D.Refused e ∙ cond_yes D.Fine (lt-ltb room n h)
+room_full room n r h e = ap Err e ∙ cond_yes (Ok tt) (lt-ltb room n h)
 
-pub room_left : (room n : ℕ) → n ≤ room → D.Fine ≡ room_for room n
+pub room_left : (room n : ℕ) → n ≤ room → (Ok tt) ≡ room_for room n
 unfolding room_for
-room_left room n h = cond_no (D.Refused (refusal_of 12)) (le-ltb room n h)
+room_left room n h = cond_no (Err (refusal_of 12)) (le-ltb room n h)
 
 -- a reversed cell has as many corners
-reversed_count : (t : Precision) (l before c : Cell) → each (reversed_face t) before l ≡ ok c → corners 0 c ≡ corners 0 before + corners 0 l
+reversed_count : (t : Precision) (l before c : Cell) → each (reversed_face t) before l ≡ Ok c → corners 0 c ≡ corners 0 before + corners 0 l
 unfolding each
 reversed_count t [] before c e = ap (corners 0) (sym (same_ok e)) ∙ omega (arith, corners_none)
 reversed_count t (f ∷ l) before c e =
     let g = then_ok (reversed_face t f) (λ y. each (reversed_face t) (before ++ (y ∷ [])) l) c e in
     omega (arith, reversed_count t l (before ++ (g.0 ∷ [])) c g.2, corners_snoc before g.0, corners_cons f l, reversed_corners t f g.0 g.1)
 
-module _ (t : Precision) (room : ℕ) (outer moved built : Cell) (d₀ : List Float) (to : ℕ) (n₀ : List ℕ) (k : ℕ) (v : Verdict) (a : v ≡ against true t outer moved) where
-  pub not_inside : (r : Refusal) → v ≡ D.Refused r → Walled (hollow_in t room outer moved built) d₀ to n₀ k d₀ n₀ v
+module _ (t : Precision) (room : ℕ) (outer moved built : Cell) (d₀ : List Float) (to : ℕ) (n₀ : List ℕ) (k : ℕ) (v : Outcome Unit) (a : v ≡ against true t outer moved) where
+  pub not_inside : (r : Refusal) → v ≡ Err r → Walled (hollow_in t room outer moved built) d₀ to n₀ k d₀ n₀ v
   unfolding hollow_in heard Walled
   not_inside r e =
-      let z : hollow_in t room outer moved built ≡ refused r = ap (λ y. then (heard y built) (hollow_of t room outer)) (sym a ∙ e) in
+      let z : hollow_in t room outer moved built ≡ Err r = ap (λ y. then (heard y built) (hollow_of t room outer)) (sym a ∙ e) in
       subst (λ o. Walled o d₀ to n₀ k d₀ n₀ v) (sym z) (e, refl, refl)
 
-  module _ (n : ℕ) (d : List Float) (ns : List ℕ) (w : Verdict) (e : v ≡ D.Fine) (F : CellMoved (each (reversed_face t) [] built) n d₀ to n₀ k d ns w) where
+  module _ (n : ℕ) (d : List Float) (ns : List ℕ) (w : Outcome Unit) (e : v ≡ Ok tt) (F : CellMoved (each (reversed_face t) [] built) n d₀ to n₀ k d ns w) where
     onward : hollow_in t room outer moved built ≡ hollow_of t room outer built
     unfolding hollow_in heard
     onward = ap (λ y. then (heard y built) (hollow_of t room outer)) (sym a ∙ e)
 
-    pub not_reversed : (r : Refusal) → w ≡ D.Refused r → Walled (hollow_in t room outer moved built) d₀ to n₀ k d ns w
+    pub not_reversed : (r : Refusal) → w ≡ Err r → Walled (hollow_in t room outer moved built) d₀ to n₀ k d ns w
     unfolding hollow_of Walled
     not_reversed r x =
-        let z : hollow_in t room outer moved built ≡ refused r = onward ∙ stop (each (reversed_face t) [] built) _ r (cell_not n d₀ to n₀ k d ns (each (reversed_face t) [] built) w r F x) in
+        let z : hollow_in t room outer moved built ≡ Err r = onward ∙ stop (each (reversed_face t) [] built) _ r (cell_not n d₀ to n₀ k d ns (each (reversed_face t) [] built) w r F x) in
         let s = cell_size n d₀ to n₀ k d ns (each (reversed_face t) [] built) w F in
         subst (λ o. Walled o d₀ to n₀ k d ns w) (sym z) (x, s.0, s.1)
 
-    walled : (c : Cell) (u : Verdict) → CellMoved (ok c) n d₀ to n₀ k d ns w → Walled (heard u (record { outer = outer; inner = c })) d₀ to n₀ k d ns u
+    walled : (c : Cell) (u : Outcome Unit) → CellMoved (Ok c) n d₀ to n₀ k d ns w → Walled (heard u (record { outer = outer; inner = c })) d₀ to n₀ k d ns u
     unfolding CellMoved Walled heard
-    walled c D.Fine h = (refl, h.1, h.2)
-    walled c (D.Refused r) h = (refl, ap length h.1 ∙ length-sets d₀ to (cell_floats c), ap length h.2 ∙ length-sets n₀ k (cell_counts c))
+    walled c (Ok tt) h = (refl, h.1, h.2)
+    walled c (Err r) h = (refl, ap length h.1 ∙ length-sets d₀ to (cell_floats c), ap length h.2 ∙ length-sets n₀ k (cell_counts c))
 
-    pub all_walled : (p q : ℕ) (u : Verdict) → w ≡ D.Fine → p ≡ corners 0 outer → q ≡ corners 0 built → u ≡ room_for room (p + q) → Walled (hollow_in t room outer moved built) d₀ to n₀ k d ns u
+    pub all_walled : (p q : ℕ) (u : Outcome Unit) → w ≡ Ok tt → p ≡ corners 0 outer → q ≡ corners 0 built → u ≡ room_for room (p + q) → Walled (hollow_in t room outer moved built) d₀ to n₀ k d ns u
     unfolding hollow_of hollow_room
     all_walled p q u x ep eq eu =
         let g = cell_made n d₀ to n₀ k d ns (each (reversed_face t) [] built) w F x in

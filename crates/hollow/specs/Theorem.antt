@@ -1,9 +1,9 @@
 -- What holds whenever a hollow answers: every inner corner is certified Negative against every outer plane.
-use Rattle.std.specs.Prelude.{◌≡◌, true, not, [], ℕ, Float}
+use Rattle.std.specs.Prelude.{◌≡◌, true, not, [], ℕ, Float, Ok}
 use Rattle.std.proofs.Common.{sym, ap, ◌∙◌}
 use Rattle.std.specs.Float.Ieee.{neg}
 use Rattle.std.proofs.lemmas.Bool.{not-false}
-use Rattle.refusal.specs.Outcome.{Outcome, ok, each, heard}
+use Rattle.refusal.specs.Outcome.{Outcome, each, heard}
 use Rattle.refusal.specs.Laws.{then_ok, unless_ok}
 use Rattle.space.specs.declared.Precision.{Precision}
 use Rattle.space.specs.Shapes.{Cell}
@@ -21,14 +21,14 @@ pub record Answered (t : Precision) (w : Float) (solid : Outcome Cell) (built : 
   pub moved : Cell
   pub made : Cell
   pub is_thick : thick t w ≡ true
-  pub given : solid ≡ ok outer
-  pub is_moved : offset_cell t (neg w) outer ≡ ok moved
-  pub is_built : built moved ≡ ok made
+  pub given : solid ≡ Ok outer
+  pub is_moved : offset_cell t (neg w) outer ≡ Ok moved
+  pub is_built : built moved ≡ Ok made
   pub first : h.outer ≡ outer
-  pub second : each (reversed_face t) [] made ≡ ok h.inner
-  pub strictly : All (λ f. All (λ q. All (λ b. side_of t b.plane q ≡ S.Negative) outer) f.points) moved
+  pub second : each (reversed_face t) [] made ≡ Ok h.inner
+  pub strictly : All (λ f. All (λ q. All (λ b. side_of t b.plane q ≡ Ok S.Negative) outer) f.points) moved
 
-pub hollow_answered : (t : Precision) (room : ℕ) (w : Float) (solid : Outcome Cell) (built : Cell → Outcome Cell) (h : Hollow) → hollow t room w solid built ≡ ok h → Answered t w solid built h
+pub hollow_answered : (t : Precision) (room : ℕ) (w : Float) (solid : Outcome Cell) (built : Cell → Outcome Cell) (h : Hollow) → hollow t room w solid built ≡ Ok h → Answered t w solid built h
 unfolding hollow hollow_in hollow_of hollow_room
 hollow_answered t room w solid built h e =
     let a = unless_ok (not (thick t w)) 28 _ h e in
@@ -48,6 +48,6 @@ hollow_answered t room w solid built h e =
       is_moved = c.1;
       is_built = d.1;
       first = ap (λ x. x.outer) (sym j.1);
-      second = ap (each (reversed_face t) []) g.1 ∙ i.1 ∙ ap (λ x. ok x.inner) j.1;
+      second = ap (each (reversed_face t) []) g.1 ∙ i.1 ∙ ap (λ x. Ok x.inner) j.1;
       strictly = against_negative t b.0 c.0 g.0;
     }

@@ -12,10 +12,11 @@ ghost use Rattle.offset.specs.Stored.{FaceMoved, CellMoved, Place};
 ghost use Rattle.hollow.specs.Hollows.{thick, reversed_face, room_for, hollow_in};
 ghost use Rattle.hollow.specs.Stored.{behind, Walled, Walls};
 
-use refusal::Verdict;
-use space::{Planed, Precision};
+use refusal::Refusal;
+use space::{Plane, Precision};
 
 // The wall is certified thicker than the linear tolerance.
+#[tactic(auto, unfolding(crate::specs::Hollows::thick))]
 pub fn is_thick(t: Precision, w: f64) -> bool
     ensures { result ≡ thick t w }
 {
@@ -29,12 +30,10 @@ fn reverse_points(src: &[f64], at: usize, n: usize, dst: &mut [f64], to: usize)
     ensures { dst.new ≡ sets dst.old to (floats_of (reverse (points_at src.now at n))) }
 {
     let mut o = to;
-    let mut i = n;
-    while 0 < i {
-        let q = polygon::get_point(src, at + 3 * (i - 1));
+    for i in (0..n).rev() {
+        let q = polygon::get_point(src, at + 3 * i);
         polygon::put_point(dst, o, q);
         o += 3;
-        i -= 1;
     }
 }
 
@@ -46,22 +45,15 @@ fn reverse_face(
     c: usize,
     dst: &mut [f64],
     to: usize,
-) -> Verdict
+) -> Result<(), Refusal>
     requires { (o + plane_size + 3 * c ≤ length src.now) × (to + plane_size + 3 * c ≤ length dst.old) }
     ensures { FaceMoved (reversed_face t (face_at src.now o c)) to dst.old dst.new result }
 {
     let w = room::get_plane(src, o);
-    let made = side::opposite(w, t);
-    match made {
-        Planed::Refused(r) => {
-            return Verdict::Refused(r);
-        }
-        Planed::Made(f) => {
-            room::put_plane(dst, to, f);
-        }
-    }
+    let f = side::opposite(w, t)?;
+    room::put_plane(dst, to, f);
     reverse_points(src, o + room::PLANE, c, dst, to + room::PLANE);
-    Verdict::Fine
+    Ok(())
 }
 
 // The faces of the cell of n faces in `src`, each seen from its other side, go to `dst` and `sizes` from `to` and `k` on.
@@ -76,28 +68,20 @@ pub fn reverse_faces(
     to: usize,
     sizes: &mut [u64],
     k: usize,
-) -> Verdict
+) -> Result<(), Refusal>
     requires { Lies src.now from counts.now first n × Place counts.now first n dst.old to sizes.old k }
     ensures { CellMoved (each (reversed_face t) [] (cell_at src.now from (counts_at counts.now first n))) n dst.old to sizes.old k dst.new sizes.new result }
 {
     let mut o = from;
     let mut q = to;
-    let mut j = 0;
-    while j < n {
+    for j in 0..n {
         let c = counts[first + j] as usize;
-        let v = reverse_face(t, src, o, c, dst, q);
-        match v {
-            Verdict::Fine => {}
-            Verdict::Refused(r) => {
-                return Verdict::Refused(r);
-            }
-        }
+        reverse_face(t, src, o, c, dst, q)?;
         sizes[k + j] = c as u64;
         o = o + room::PLANE + 3 * c;
         q = q + room::PLANE + 3 * c;
-        j += 1;
     }
-    Verdict::Fine
+    Ok(())
 }
 
 // How many corners n faces have.
@@ -106,22 +90,20 @@ pub fn corners_of(counts: &[u64], first: usize, n: usize, src: &[f64], from: usi
     ensures { (result ≡ corners 0 (cell_at src.now from (counts_at counts.now first n))) × (3 * result ≤ length src.now) }
 {
     let mut held = 0;
-    let mut j = 0;
-    while j < n {
+    for j in 0..n {
         held += counts[first + j] as usize;
-        j += 1;
     }
     held
 }
 
 // 12 where an answer has more corners than the room.
-pub fn room_for(limit: usize, n: usize) -> Verdict
+pub fn room_for(limit: usize, n: usize) -> Result<(), Refusal>
     ensures { result ≡ room_for limit n }
 {
     if limit < n {
-        return Verdict::Refused(refusal::refuse(12));
+        return Err(refusal::refuse(12));
     }
-    Verdict::Fine
+    Ok(())
 }
 
 // The outer cell of `faces` faces stands in `dst` and `sizes` from `to` and `k` on. The moved cell must lie strictly inside it; the built
@@ -144,22 +126,16 @@ pub fn hollow_in(
     sizes: &mut [u64],
     k: usize,
     faces: usize,
-) -> Verdict
+) -> Result<(), Refusal>
     requires { Walls moved.now mat mcounts.now mfirst mn src.now from counts.now first n dst.old to sizes.old k faces }
     ensures { Walled (hollow_in t limit (cell_at dst.old to (counts_at sizes.old k faces)) (cell_at moved.now mat (counts_at mcounts.now mfirst mn)) (cell_at src.now from (counts_at counts.now first n))) dst.old (behind to faces (cell_at dst.old to (counts_at sizes.old k faces))) sizes.old (k + faces) dst.new sizes.new result }
 {
-    let v = bounds::against(
+    bounds::against(
         true, t, dst, to, sizes, k, faces, moved, mat, mcounts, mfirst, mn,
-    );
-    let Verdict::Fine = v else {
-        return v;
-    };
+    )?;
     let outer = corners_of(sizes, k, faces, dst, to);
     let inner = corners_of(counts, first, n, src, from);
     let at = to + room::PLANE * faces + 3 * outer;
-    let w = reverse_faces(t, src, from, counts, first, n, dst, at, sizes, k + faces);
-    let Verdict::Fine = w else {
-        return w;
-    };
+    reverse_faces(t, src, from, counts, first, n, dst, at, sizes, k + faces)?;
     room_for(limit, outer + inner)
 }

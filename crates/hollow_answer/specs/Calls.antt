@@ -1,7 +1,7 @@
 -- The call of a hollow solid, from the checked cell to the bytes of its answer. Definitions only.
-use Rattle.std.specs.Prelude.{List, ◌++◌, ℕ, ◌+◌, ◌*◌, ◌≤◌, length, Float}
+use Rattle.std.specs.Prelude.{List, ◌++◌, ℕ, ◌+◌, ◌*◌, ◌≤◌, length, Float, Ok}
 use Rattle.std.specs.Float.Ieee.{neg}
-use Rattle.refusal.specs.Outcome.{Outcome, ok, then}
+use Rattle.refusal.specs.Outcome.{Outcome, then}
 use Rattle.space.specs.declared.Precision.{Precision}
 use Rattle.space.specs.Shapes.{Cell, corners}
 use Rattle.room.specs.Rooms.{cell_at, counts_at}
@@ -24,7 +24,7 @@ unfoldable pub hollow_answer : Hollow → List ℕ
 hollow_answer h = digits 4 2 ++ (shell_answer 1 h.outer ++ shell_answer 0 h.inner)
 
 abbrev pub answer_of : Hollow → Outcome (List ℕ)
-answer_of h = ok (hollow_answer h)
+answer_of h = Ok (hollow_answer h)
 
 -- from the moved cell and the built one on
 unfoldable pub wall_call : Precision → ℕ → Cell → Cell → Cell → Outcome (List ℕ)

@@ -1,5 +1,5 @@
 -- Laws of the answer of a hollow solid: its size, its bytes, and its two shells in their slices.
-use Rattle.std.specs.Prelude.{◌≡◌, true, ℕ, ◌+◌, ◌*◌, ◌≤◌, ◌<◌, length, take, drop, Float}
+use Rattle.std.specs.Prelude.{◌≡◌, true, ℕ, ◌+◌, ◌*◌, ◌≤◌, ◌<◌, length, take, drop, Float, Ok, Err}
 use Rattle.std.proofs.Math.Path.{refl, ap, subst}
 use Rattle.std.proofs.Common.{sym, ap₂, ◌∙◌, arith, length-append, length-take, take_at}
 use mathlib.Core.List.{List, [], ◌∷◌, ◌++◌, append_assoc, append-nil}
@@ -7,9 +7,7 @@ use Rattle.std.proofs.lemmas.List.Edits.{sets, sets-eq}
 use Rattle.std.proofs.Math.Seq.{length-sets}
 use Rattle.std.specs.Float.{nan}
 use Rattle.refusal.specs.declared.Refusal.{Refusal}
-use Rattle.refusal.specs.declared.Verdict.{Verdict}
-use Rattle.refusal.specs.declared.Verdict.TheVariants as D
-use Rattle.refusal.specs.Outcome.{Outcome, ok, refused, refusal_of, each, heard}
+use Rattle.refusal.specs.Outcome.{Outcome, refusal_of, each, heard}
 use Rattle.refusal.specs.Laws.{stop, go, same_ok, then_ok}
 use Rattle.space.specs.declared.Precision.{Precision}
 use Rattle.space.specs.Shapes.{Face, Cell, corners}
@@ -97,8 +95,8 @@ module _ (s : List Float) (counts : List ℕ) (n : ℕ) (P : Pair s counts n) (o
     size : length (hollow_answer (hollow_at s counts n)) ≡ 14 + 200 * n + 24 * (o + i)
     size = omega (arith, ap length whole, length-append (digits 4 2) (first ++ second), length-append first second, length_count 2, one, two)
 
-    pub body_full : (a : List ℕ) (x : Refusal) (r : Ended) → length a < 14 + 200 * n + 24 * (o + i) → x ≡ refusal_of 12 → r ≡ stopped x → Handed (fitted (length a) (ok (hollow_answer (hollow_at s counts n)))) a a r
-    body_full a x r h e g = handed_full (ok (hollow_answer (hollow_at s counts n))) a a r (hollow_answer (hollow_at s counts n)) x refl (omega (arith, h, size)) e g refl
+    pub body_full : (a : List ℕ) (x : Refusal) (r : Ended) → length a < 14 + 200 * n + 24 * (o + i) → x ≡ refusal_of 12 → r ≡ stopped x → Handed (fitted (length a) (Ok (hollow_answer (hollow_at s counts n)))) a a r
+    body_full a x r h e g = handed_full (Ok (hollow_answer (hollow_at s counts n))) a a r (hollow_answer (hollow_at s counts n)) x refl (omega (arith, h, size)) e g refl
 
     module _ (a : List ℕ) (h : 14 + 200 * n + 24 * (o + i) ≤ length a) (a1 : List ℕ) (e1 : a1 ≡ sets a 0 (digits 4 2)) where
       pub body_first : 4 + length (shell_answer 1 (cell_at s 0 (counts_at counts 0 n))) ≤ length a1
@@ -109,13 +107,13 @@ module _ (s : List Float) (counts : List ℕ) (n : ℕ) (P : Pair s counts n) (o
         body_second = omega (arith, h, one, two, em, ap length e1, length-sets a 0 (digits 4 2), ap length e2, length-sets a1 4 first)
 
         pub body_all : (e : ℕ) (a3 : List ℕ) (r : Ended) → e ≡ m + length (shell_answer 0 (cell_at s (13 * n + 3 * o) (counts_at counts n n))) →
-            a3 ≡ sets a2 m (shell_answer 0 (cell_at s (13 * n + 3 * o) (counts_at counts n n))) → r ≡ answered e → Handed (fitted (length a) (ok (hollow_answer (hollow_at s counts n)))) a a3 r
+            a3 ≡ sets a2 m (shell_answer 0 (cell_at s (13 * n + 3 * o) (counts_at counts n n))) → r ≡ answered e → Handed (fitted (length a) (Ok (hollow_answer (hollow_at s counts n)))) a a3 r
         body_all e a3 r ee e3 er =
             let p : a2 ≡ sets a 0 (digits 4 2 ++ first) = then_sets a a1 a2 0 4 (digits 4 2) first e1 e2 (omega (arith, length_count 2)) in
             let q : a3 ≡ sets a 0 ((digits 4 2 ++ first) ++ second) = then_sets a a2 a3 0 m (digits 4 2 ++ first) second p e3 (omega (arith, em, length-append (digits 4 2) first, length_count 2)) in
             let l : e ≡ length (hollow_answer (hollow_at s counts n)) = omega (arith, ee, em, one, two, size) in
             handed_all
-            (ok (hollow_answer (hollow_at s counts n)))
+            (Ok (hollow_answer (hollow_at s counts n)))
             a
             a3
             r
@@ -159,7 +157,7 @@ counts_before l n v h =
 
 -- ---- the reversed cell has as many corners in each face
 
-pub reversed_counts : (t : Precision) (l before c : Cell) → each (reversed_face t) before l ≡ ok c → cell_counts c ≡ cell_counts before ++ cell_counts l
+pub reversed_counts : (t : Precision) (l before c : Cell) → each (reversed_face t) before l ≡ Ok c → cell_counts c ≡ cell_counts before ++ cell_counts l
 unfolding each cell_counts
 reversed_counts t [] before c e = ap cell_counts (sym (same_ok e)) ∙ sym (append-nil (cell_counts before))
 reversed_counts t (f ∷ l) before c e =
@@ -171,28 +169,28 @@ reversed_counts t (f ∷ l) before c e =
 
 -- ---- the two shells, once they stand one behind the other
 
-pub hollow_parts : (t : Precision) (limit : ℕ) (out moved made : Cell) (h : Hollow) → hollow_in t limit out moved made ≡ ok h → (h.outer ≡ out) × (each (reversed_face t) [] made ≡ ok h.inner)
+pub hollow_parts : (t : Precision) (limit : ℕ) (out moved made : Cell) (h : Hollow) → hollow_in t limit out moved made ≡ Ok h → (h.outer ≡ out) × (each (reversed_face t) [] made ≡ Ok h.inner)
 unfolding hollow_in hollow_of hollow_room
 hollow_parts t limit out moved made h e =
     let f = then_ok (heard (against true t out moved) made) (hollow_of t limit out) h e in
     let g = heard_ok (against true t out moved) made f.0 f.1 in
     let i = then_ok (each (reversed_face t) [] f.0) _ h f.2 in
     let j = heard_ok _ _ h i.2 in
-    (ap (λ x. x.outer) (sym j.1), ap (each (reversed_face t) []) g.1 ∙ i.1 ∙ ap (λ x. ok x.inner) j.1)
+    (ap (λ x. x.outer) (sym j.1), ap (each (reversed_face t) []) g.1 ∙ i.1 ∙ ap (λ x. Ok x.inner) j.1)
 
-walled_not : (o : Outcome Hollow) (d₀ : List Float) (to : ℕ) (n₀ : List ℕ) (k : ℕ) (d : List Float) (ns : List ℕ) (v : Verdict) (x : Refusal) → Walled o d₀ to n₀ k d ns v → v ≡ D.Refused x → o ≡ refused x
+walled_not : (o : Outcome Hollow) (d₀ : List Float) (to : ℕ) (n₀ : List ℕ) (k : ℕ) (d : List Float) (ns : List ℕ) (v : Outcome Unit) (x : Refusal) → Walled o d₀ to n₀ k d ns v → v ≡ Err x → o ≡ Err x
 unfolding Walled
-walled_not (ok h) d₀ to n₀ k d ns v x w e = absurd (let a = w.0 in let z : ◌≡◌ {A = ℕ} 0 1 = cc in omega arith)
-walled_not (refused y) d₀ to n₀ k d ns v x w e = let a = w.0 in let b : y ≡ x = cc in ap refused b
+walled_not (Ok h) d₀ to n₀ k d ns v x w e = absurd (let a = w.0 in let z : ◌≡◌ {A = ℕ} 0 1 = cc in omega arith)
+walled_not (Err y) d₀ to n₀ k d ns v x w e = let a = w.0 in let b : y ≡ x = cc in ap Err b
 
-walled_made : (o : Outcome Hollow) (d₀ : List Float) (to : ℕ) (n₀ : List ℕ) (k : ℕ) (d : List Float) (ns : List ℕ) (v : Verdict) → Walled o d₀ to n₀ k d ns v → v ≡ D.Fine →
-    (h : Hollow) × (o ≡ ok h) × (d ≡ sets d₀ to (cell_floats h.inner)) × (ns ≡ sets n₀ k (cell_counts h.inner))
+walled_made : (o : Outcome Hollow) (d₀ : List Float) (to : ℕ) (n₀ : List ℕ) (k : ℕ) (d : List Float) (ns : List ℕ) (v : Outcome Unit) → Walled o d₀ to n₀ k d ns v → v ≡ Ok tt →
+    (h : Hollow) × (o ≡ Ok h) × (d ≡ sets d₀ to (cell_floats h.inner)) × (ns ≡ sets n₀ k (cell_counts h.inner))
 unfolding Walled
-walled_made (ok h) d₀ to n₀ k d ns v w e = (h, refl, w.1, w.2)
-walled_made (refused y) d₀ to n₀ k d ns v w e = absurd (let a = w.0 in let z : ◌≡◌ {A = ℕ} 0 1 = cc in omega arith)
+walled_made (Ok h) d₀ to n₀ k d ns v w e = (h, refl, w.1, w.2)
+walled_made (Err y) d₀ to n₀ k d ns v w e = absurd (let a = w.0 in let z : ◌≡◌ {A = ℕ} 0 1 = cc in omega arith)
 
 module _ (t : Precision) (limit : ℕ) (m : List Float) (sizes : List ℕ) (src : List Float) (n : ℕ) (s : List Float) (counts : List ℕ) (W : Walls m 0 sizes 0 n src 0 sizes 0 n s 0 counts 0 n)
-    (s' : List Float) (counts' : List ℕ) (v : Verdict)
+    (s' : List Float) (counts' : List ℕ) (v : Outcome Unit)
     (F : Walled (hollow_in t limit (cell_at s 0 (counts_at counts 0 n)) (cell_at m 0 (counts_at sizes 0 n)) (cell_at src 0 (counts_at sizes 0 n))) s (behind 0 n (cell_at s 0 (counts_at counts 0 n))) counts (0 + n) s' counts' v) where
   abbrev out : Cell
   out = cell_at s 0 (counts_at counts 0 n)
@@ -206,13 +204,13 @@ module _ (t : Precision) (limit : ℕ) (m : List Float) (sizes : List ℕ) (src 
   abbrev to : ℕ
   to = behind 0 n (cell_at s 0 (counts_at counts 0 n))
 
-  pub wall_stops : (a : List ℕ) (x : Refusal) (r : Ended) → v ≡ D.Refused x → r ≡ stopped x →
+  pub wall_stops : (a : List ℕ) (x : Refusal) (r : Ended) → v ≡ Err x → r ≡ stopped x →
       Handed (fitted (length a) (wall_call t limit (cell_at s 0 (counts_at counts 0 n)) (cell_at m 0 (counts_at sizes 0 n)) (cell_at src 0 (counts_at sizes 0 n)))) a a r
   unfolding wall_call
   wall_stops a x r e g = handed_not (wall_call t limit out moved made) a a r x (stop (hollow_in t limit out moved made) answer_of x (walled_not (hollow_in t limit out moved made) s to counts (0 + n) s' counts' v x F e)) g refl
 
-  module _ (e : v ≡ D.Fine) where
-    walled : (h : Hollow) × (hollow_in t limit (cell_at s 0 (counts_at counts 0 n)) (cell_at m 0 (counts_at sizes 0 n)) (cell_at src 0 (counts_at sizes 0 n)) ≡ ok h)
+  module _ (e : v ≡ Ok tt) where
+    walled : (h : Hollow) × (hollow_in t limit (cell_at s 0 (counts_at counts 0 n)) (cell_at m 0 (counts_at sizes 0 n)) (cell_at src 0 (counts_at sizes 0 n)) ≡ Ok h)
         × (s' ≡ sets s (behind 0 n (cell_at s 0 (counts_at counts 0 n))) (cell_floats h.inner)) × (counts' ≡ sets counts (0 + n) (cell_counts h.inner))
     walled = walled_made (hollow_in t limit out moved made) s to counts (0 + n) s' counts' v F e
 
@@ -269,10 +267,10 @@ module _ (t : Precision) (limit : ℕ) (m : List Float) (sizes : List ℕ) (src 
     inner_is : inner_at s' counts' n ≡ walled.0.inner
     inner_is = ap (λ x. cell_at s' x (counts_at counts' n n)) same_place ∙ ap (cell_at s' to) back_counts ∙ ap (λ l. cell_at l to (cell_counts inner)) walled.2 ∙ cell_stored s to inner inner_fits
 
-    pub wall_ends : (a a' : List ℕ) (r : Ended) → Handed (fitted (length a) (ok (hollow_answer (hollow_at s' counts' n)))) a a' r →
+    pub wall_ends : (a a' : List ℕ) (r : Ended) → Handed (fitted (length a) (Ok (hollow_answer (hollow_at s' counts' n)))) a a' r →
         Handed (fitted (length a) (wall_call t limit (cell_at s 0 (counts_at counts 0 n)) (cell_at m 0 (counts_at sizes 0 n)) (cell_at src 0 (counts_at sizes 0 n)))) a a' r
     unfolding wall_call
     wall_ends a a' r h =
         let k : hollow_at s' counts' n ≡ walled.0 = λ i. record { outer = outer_is i; inner = inner_is i } in
-        let z : wall_call t limit out moved made ≡ ok (hollow_answer (hollow_at s' counts' n)) = go (hollow_in t limit out moved made) answer_of walled.0 walled.1 ∙ ap (λ x. ok (hollow_answer x)) (sym k) in
+        let z : wall_call t limit out moved made ≡ Ok (hollow_answer (hollow_at s' counts' n)) = go (hollow_in t limit out moved made) answer_of walled.0 walled.1 ∙ ap (λ x. Ok (hollow_answer x)) (sym k) in
         subst (λ o. Handed (fitted (length a) o) a a' r) (sym z) h

@@ -1,5 +1,5 @@
 -- Laws of the stages of a hollow solid: the offset, the built cell, and the wall.
-use Rattle.std.specs.Prelude.{◌≡◌, false, List, [], ◌∷◌, map, ℕ, ◌+◌, ◌*◌, ◌≤◌, Float}
+use Rattle.std.specs.Prelude.{◌≡◌, false, List, [], ◌∷◌, map, ℕ, ◌+◌, ◌*◌, ◌≤◌, Float, Ok, Err}
 use Rattle.std.proofs.Math.Path.{refl, ap, subst}
 use Rattle.std.proofs.Common.{sym, ap₂, ◌∙◌, arith}
 use Rattle.std.proofs.Math.ListN.{length}
@@ -7,9 +7,7 @@ use Rattle.std.proofs.lemmas.List.Edits.{sets}
 use Rattle.std.proofs.Math.Seq.{length-sets}
 use Rattle.std.specs.Float.Ieee.{neg}
 use Rattle.refusal.specs.declared.Refusal.{Refusal}
-use Rattle.refusal.specs.declared.Verdict.{Verdict}
-use Rattle.refusal.specs.declared.Verdict.TheVariants as D
-use Rattle.refusal.specs.Outcome.{Outcome, ok, refused, then}
+use Rattle.refusal.specs.Outcome.{Outcome, then}
 use Rattle.refusal.specs.Laws.{stop, go, same_ok}
 use Rattle.space.specs.declared.Precision.{Precision}
 use Rattle.space.specs.Shapes.{Cell, corners}
@@ -17,8 +15,6 @@ use Rattle.polygon.specs.Memory.{points_at}
 use Rattle.polygon.specs.Members.{All}
 use Rattle.room.specs.Rooms.{cell_floats, cell_counts, cell_at, counts_at, Within, Small}
 use Rattle.room.specs.Laws.{cell_stored, within_stored, length_cell_floats, length_cell_counts, cell_counts_lem}
-use Rattle.indexed.specs.declared.Counted.{Counted}
-use Rattle.indexed.specs.declared.Counted.TheVariants as C
 use Rattle.indexed.specs.Stored.{Stored, Fits}
 use Rattle.solids.specs.Frames.{faces_at}
 use Rattle.solids.specs.Faces.{length_face}
@@ -54,26 +50,26 @@ unfolding Within cell_counts All
 small_within [] at m w = tt
 small_within (f ∷ c) at m w = (w.0, small_within c (at + 13 + 3 * length f.points) m w.1)
 
-module _ (t : Precision) (limit : ℕ) (out : Cell) (src : List Float) (sizes : List ℕ) (n : ℕ) (p₀ : List Float) (i₀ : List ℕ) (fits : Fits src sizes 0 0 n p₀ i₀) (p : List Float) (i : List ℕ) (f : Counted)
+module _ (t : Precision) (limit : ℕ) (out : Cell) (src : List Float) (sizes : List ℕ) (n : ℕ) (p₀ : List Float) (i₀ : List ℕ) (fits : Fits src sizes 0 0 n p₀ i₀) (p : List Float) (i : List ℕ) (f : Outcome ℕ)
     (S : Stored (built t (cell_at src 0 (counts_at sizes 0 n))) p₀ i₀ p i f) where
   abbrev cell : Cell
   cell = cell_at src 0 (counts_at sizes 0 n)
 
-  pub shell_stops : (a : List ℕ) (x : Refusal) (r : Ended) → f ≡ C.Refused x → r ≡ stopped x → Handed (fitted (length a) (shell_call t limit out (cell_at src 0 (counts_at sizes 0 n)))) a a r
+  pub shell_stops : (a : List ℕ) (x : Refusal) (r : Ended) → f ≡ Err x → r ≡ stopped x → Handed (fitted (length a) (shell_call t limit out (cell_at src 0 (counts_at sizes 0 n)))) a a r
   unfolding shell_call built_cell
   shell_stops a x r e g =
       handed_not (shell_call t limit out cell) a a r x (stop (built_cell t cell) (wall_call t limit out cell) x (stop (built t cell) (cell_of t) x (stored_not (built t cell) p₀ i₀ p i f x S e))) g refl
 
-  module _ (m : ℕ) (e : f ≡ C.Made m) (l l' : List Float) (room : 13 * n + 3 * length i₀ ≤ length l) (put : l' ≡ sets l 0 (cell_floats (framed t (points_at p 0 m) (faces_at i 0 (counts_at sizes 0 n))))) where
+  module _ (m : ℕ) (e : f ≡ Ok m) (l l' : List Float) (room : 13 * n + 3 * length i₀ ≤ length l) (put : l' ≡ sets l 0 (cell_floats (framed t (points_at p 0 m) (faces_at i 0 (counts_at sizes 0 n))))) where
     abbrev frames : Cell
     frames = framed t (points_at p 0 m) (faces_at i 0 (counts_at sizes 0 n))
 
     -- what passed the check has a frame for each face
-    is_cell : cell_of t (found t limit src sizes n p₀ i₀ fits p i f S m e).0 ≡ ok (framed t (points_at p 0 m) (faces_at i 0 (counts_at sizes 0 n)))
+    is_cell : cell_of t (found t limit src sizes n p₀ i₀ fits p i f S m e).0 ≡ Ok (framed t (points_at p 0 m) (faces_at i 0 (counts_at sizes 0 n)))
     is_cell =
         let s = found t limit src sizes n p₀ i₀ fits p i f S m e in
         let b = (built_indexed t cell s.0 s.1).1 in
-        cell_framed false t s.0 (check_passed false t s.0 b.0 b.1).0 ∙ ap (λ x. ok (framed t x.points x.faces)) (sym (built_solid t limit src sizes n p₀ i₀ fits p i f S m e))
+        cell_framed false t s.0 (check_passed false t s.0 b.0 b.1).0 ∙ ap (λ x. Ok (framed t x.points x.faces)) (sym (built_solid t limit src sizes n p₀ i₀ fits p i f S m e))
 
     frames_counts : cell_counts (framed t (points_at p 0 m) (faces_at i 0 (counts_at sizes 0 n))) ≡ counts_at sizes 0 n
     frames_counts =
@@ -102,7 +98,7 @@ module _ (t : Precision) (limit : ℕ) (out : Cell) (src : List Float) (sizes : 
     unfolding shell_call built_cell
     shell_ends a a' r h =
         let s = found t limit src sizes n p₀ i₀ fits p i f S m e in
-        let b : built_cell t cell ≡ ok frames = go (built t cell) (cell_of t) s.0 s.1 ∙ is_cell in
+        let b : built_cell t cell ≡ Ok frames = go (built t cell) (cell_of t) s.0 s.1 ∙ is_cell in
         let z : shell_call t limit out cell ≡ wall_call t limit out cell (cell_at l' 0 (counts_at sizes 0 n)) = go (built_cell t cell) (wall_call t limit out cell) frames b ∙ ap (wall_call t limit out cell) (sym back) in
         subst (λ o. Handed (fitted (length a) o) a a' r) (sym z) h
 
@@ -114,18 +110,18 @@ shell_walls C faces' l = record { outer = C.outer; moved = record { listed = C.f
 -- ---- the offset before it
 
 module _ (t : Precision) (limit : ℕ) (w : Float) {s : List Float} {counts : List ℕ} {n : ℕ} {by points : List Float} {places : List ℕ} {moved dst : List Float} {sizes ends head next seen work nodes cuts : List ℕ}
-    (yard : Yard s counts n by points places moved dst sizes ends head next seen work nodes cuts) (dst' : List Float) (sizes' : List ℕ) (v : Verdict)
+    (yard : Yard s counts n by points places moved dst sizes ends head next seen work nodes cuts) (dst' : List Float) (sizes' : List ℕ) (v : Outcome Unit)
     (M : CellMoved (offset_cell t (neg w) (cell_at s 0 (counts_at counts 0 n))) n dst 0 sizes 0 dst' sizes' v) where
   abbrev start : Cell
   start = cell_at s 0 (counts_at counts 0 n)
 
-  pub hollow_stops : (a : List ℕ) (x : Refusal) (r : Ended) → v ≡ D.Refused x → r ≡ stopped x → Handed (fitted (length a) (hollow_call t limit w (cell_at s 0 (counts_at counts 0 n)))) a a r
+  pub hollow_stops : (a : List ℕ) (x : Refusal) (r : Ended) → v ≡ Err x → r ≡ stopped x → Handed (fitted (length a) (hollow_call t limit w (cell_at s 0 (counts_at counts 0 n)))) a a r
   unfolding hollow_call
   hollow_stops a x r e g =
       handed_not (hollow_call t limit w start) a a r x (stop (offset_cell t (neg w) start) (shell_call t limit start) x (cell_not n dst 0 sizes 0 dst' sizes' (offset_cell t (neg w) start) v x M e)) g refl
 
-  module _ (e : v ≡ D.Fine) where
-    inner : (c : Cell) × (offset_cell t (neg w) (cell_at s 0 (counts_at counts 0 n)) ≡ ok c) × CellMoved (ok c) n dst 0 sizes 0 dst' sizes' v
+  module _ (e : v ≡ Ok tt) where
+    inner : (c : Cell) × (offset_cell t (neg w) (cell_at s 0 (counts_at counts 0 n)) ≡ Ok c) × CellMoved (Ok c) n dst 0 sizes 0 dst' sizes' v
     inner = made t limit (neg w) s counts n yard.shop.ready dst' sizes' v M e
 
     -- the moved cell finds a place behind the outer one

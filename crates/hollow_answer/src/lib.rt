@@ -1,8 +1,7 @@
 #![tactic(auto)]
 
 // The answer of a hollow solid, from the checked cell in its slices to the bytes.
-ghost use Rattle.std.specs.Prelude.{◌≡◌, ◌+◌, ◌*◌, ◌≤◌, length};
-ghost use Rattle.refusal.specs.Outcome.{ok};
+ghost use Rattle.std.specs.Prelude.{◌≡◌, ◌+◌, ◌*◌, ◌≤◌, length, Ok};
 ghost use Rattle.room.specs.Rooms.{cell_at, counts_at};
 ghost use Rattle.ended.specs.Ends.{fitted, Handed};
 ghost use Rattle.hollow.specs.Stored.{Walls};
@@ -10,14 +9,13 @@ ghost use Rattle.hollow_answer.specs.Calls.{hollow_answer, hollow_at, wall_call,
 ghost use Rattle.hollow_answer.specs.Stages.{Cavity};
 
 use ended::Ended;
-use indexed::Counted;
-use refusal::Verdict;
+use refusal::Refusal;
 use space::Precision;
 
 // The body of two shells of n facets each, one behind the other at the front of `s` and `counts`.
 fn put_body(s: &[f64], counts: &[u64], n: usize, answer: &mut [u8]) -> Ended
     requires { Pair s.now counts.now n }
-    ensures { Handed (fitted (length answer.old) (ok (hollow_answer (hollow_at s.now counts.now n)))) answer.old answer.new result }
+    ensures { Handed (fitted (length answer.old) (Ok (hollow_answer (hollow_at s.now counts.now n)))) answer.old answer.new result }
 {
     let outer = hollow::corners_of(counts, 0, n, s, 0);
     let at = room::PLANE * n + 3 * outer;
@@ -50,8 +48,8 @@ fn wall_answer(
         t, limit, moved, 0, sizes, 0, n, src, 0, sizes, 0, n, s, 0, counts, 0, n,
     );
     match v {
-        Verdict::Refused(r) => ended::stop(r),
-        Verdict::Fine => put_body(s, counts, n, answer),
+        Err(r) => ended::stop(r),
+        Ok(()) => put_body(s, counts, n, answer),
     }
 }
 
@@ -83,8 +81,8 @@ fn shell_answer(
         t, src, 0, sizes, n, points, places, ends, head, next, seen, work, nodes, cuts,
     );
     match found {
-        Counted::Refused(r) => ended::stop(r),
-        Counted::Made(m) => {
+        Err(r) => ended::stop(r),
+        Ok(m) => {
             solid_check::put_faces(t, points, m, places, sizes, n, faces);
             wall_answer(t, limit, src, sizes, faces, n, s, counts, answer)
         }
@@ -122,8 +120,8 @@ pub fn hollow_answer(
         t, s, 0, counts, 0, n, -w, by, points, places, moved, dst, 0, sizes, 0,
     );
     match v {
-        Verdict::Refused(r) => ended::stop(r),
-        Verdict::Fine => shell_answer(
+        Err(r) => ended::stop(r),
+        Ok(()) => shell_answer(
             t, limit, dst, sizes, n, s, counts, points, places, moved, ends, head, next, seen,
             work, nodes, cuts, answer,
         ),

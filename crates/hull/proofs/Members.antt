@@ -1,10 +1,10 @@
 -- What holds of every point of a list holds of every corner of its hull, and a hull has at least three.
-use Rattle.std.specs.Prelude.{◌≡◌, refl, Bool, true, false, ◌⊎◌, ◌≤◌, ltb, length}
+use Rattle.std.specs.Prelude.{◌≡◌, refl, Bool, true, false, ◌⊎◌, ◌≤◌, ltb, length, Ok}
 use Rattle.std.proofs.Common.{sym, ◌∙◌, inl, inr, ltb-false}
 use Rattle.std.proofs.Math.Path.{subst}
 use mathlib.Core.List.{List, [], ◌∷◌, ◌++◌, reverse, reverse_aux, map}
 use Rattle.std.proofs.Math.Logic.{⊎_elim}
-use Rattle.refusal.specs.Outcome.{ok, walk}
+use Rattle.refusal.specs.Outcome.{walk}
 use Rattle.refusal.specs.Laws.{same_ok, never_ok, then_ok, unless_ok}
 use Rattle.exact.specs.declared.Turn.{Turn}
 use Rattle.exact.specs.declared.Turn.TheVariants.{Positive, Negative, Zero, None}
@@ -27,11 +27,11 @@ turns Zero = inr (inr (inl refl))
 turns None = inr (inr (inr refl))
 
 -- a hull is the ring of two chains
-module _ (p : Plane) (l k : List Point3) (e : hull_on p l ≡ ok k) where
+module _ (p : Plane) (l k : List Point3) (e : hull_on p l ≡ Ok k) where
   abbrev sorted : List Flat
   sorted = sort_flat [] (map (flat_on p) l)
 
-  ring_of : (lower : List Flat) × (chain (reverse sorted) ≡ ok lower) × (upper : List Flat) × (chain sorted ≡ ok upper) × (ringed (half lower ++ half upper) ≡ ok k)
+  ring_of : (lower : List Flat) × (chain (reverse sorted) ≡ Ok lower) × (upper : List Flat) × (chain sorted ≡ Ok upper) × (ringed (half lower ++ half upper) ≡ Ok k)
   unfolding hull_on chains
   ring_of =
       let c = (unless_ok (ltb (length l) 3) 10 (chains sorted) k e).1 in
@@ -62,7 +62,7 @@ module _ (P : Point3 → Type 0) where
   all_sort acc [] a b = a
   all_sort acc (x ∷ l) a b = all_sort (insert_flat x acc) l (all_insert x acc b.0 a) b.1
 
-  all_chain_one : (s : List Flat) (q : Flat) (k : List Flat) → All At s → At q → chain_one s q ≡ ok k → All At k
+  all_chain_one : (s : List Flat) (q : Flat) (k : List Flat) → All At s → At q → chain_one s q ≡ Ok k → All At k
   unfolding All chain_one
   all_chain_one [] q k a h e = subst (All At) (same_ok e) (h, tt)
   all_chain_one (b ∷ []) q k a h e = subst (All At) (same_ok e) (h, a)
@@ -76,7 +76,7 @@ module _ (P : Point3 → Type 0) where
       (λ w. never_ok (sym (chain_none c b q r w) ∙ e))))
       (turns (turn c b q))
 
-  all_walk : (s l k : List Flat) → All At s → All At l → walk chain_one s l ≡ ok k → All At k
+  all_walk : (s l k : List Flat) → All At s → All At l → walk chain_one s l ≡ Ok k → All At k
   unfolding All walk
   all_walk s [] k a b e = subst (All At) (same_ok e) a
   all_walk s (q ∷ l) k a b e =
@@ -98,7 +98,7 @@ module _ (P : Point3 → Type 0) where
   all_half [] a = tt
   all_half (x ∷ c) a = all_at (reverse c) (all_reverse c [] a.1 tt)
 
-  hull_on_all : (p : Plane) (l k : List Point3) → All P l → hull_on p l ≡ ok k → All P k
+  hull_on_all : (p : Plane) (l k : List Point3) → All P l → hull_on p l ≡ Ok k → All P k
   unfolding All chain ringed
   hull_on_all p l k a e =
       let r = ring_of p l k e in
@@ -106,23 +106,23 @@ module _ (P : Point3 → Type 0) where
       let low = all_half r.0 (all_walk [] (reverse (sorted p l k e)) r.0 tt (all_reverse (sorted p l k e) [] s tt) r.1) in
       let up = all_half r.2 (all_walk [] (sorted p l k e) r.2 tt s r.3) in
       let ring = half r.0 ++ half r.2 in
-      subst (All P) (same_ok (unless_ok (ltb (length ring) 3) 10 (ok ring) k r.4).1) (all_append P (half r.0) (half r.2) low up)
+      subst (All P) (same_ok (unless_ok (ltb (length ring) 3) 10 (Ok ring) k r.4).1) (all_append P (half r.0) (half r.2) low up)
 
-  pub hull_all : (t : Precision) (p : Plane) (l k : List Point3) → All P l → hull t p l ≡ ok k → All P k
+  pub hull_all : (t : Precision) (p : Plane) (l k : List Point3) → All P l → hull t p l ≡ Ok k → All P k
   unfolding hull
   hull_all t p l k a e =
       let w = then_ok (unique t l) (hull_on p) k e in
       hull_on_all p w.0 k (unique_all P t l w.0 a w.1) w.2
 
-  pub cap_all : (t : Precision) (p : Plane) (l k : List Point3) → All P l → cap_of t p l ≡ ok k → All P k
+  pub cap_all : (t : Precision) (p : Plane) (l k : List Point3) → All P l → cap_of t p l ≡ Ok k → All P k
   cap_all t p l k a e = hull_all t p l k a (cap_hull t p l k e)
 
 -- a hull has at least three corners
-pub hull_least : (t : Precision) (p : Plane) (l k : List Point3) → hull t p l ≡ ok k → 3 ≤ length k
+pub hull_least : (t : Precision) (p : Plane) (l k : List Point3) → hull t p l ≡ Ok k → 3 ≤ length k
 unfolding hull ringed
 hull_least t p l k e =
     let w = then_ok (unique t l) (hull_on p) k e in
     let r = ring_of p w.0 k w.2 in
     let ring = half r.0 ++ half r.2 in
-    let u = unless_ok (ltb (length ring) 3) 10 (ok ring) k r.4 in
+    let u = unless_ok (ltb (length ring) 3) 10 (Ok ring) k r.4 in
     subst (λ a. 3 ≤ length a) (same_ok u.1) (ltb-false (length ring) 3 u.0)

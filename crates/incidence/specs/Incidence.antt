@@ -1,8 +1,8 @@
 -- One point against one edge, as `conform` of 000 has it: 15, 16. Definitions only.
-use Rattle.std.specs.Prelude.{Bool, not, cond, List}
+use Rattle.std.specs.Prelude.{Bool, not, cond, List, Ok, Err, Some, None, Option}
 use Rattle.std.specs.Float.{binary64}
 use Rattle.std.specs.Float.Ieee.{mul}
-use Rattle.refusal.specs.Outcome.{refusal_of}
+use Rattle.refusal.specs.Outcome.{Outcome, refusal_of}
 use Rattle.interval.specs.declared.Interval.{Interval}
 use Rattle.interval.specs.declared.Sign.{Sign}
 use Rattle.interval.specs.declared.Sign.TheVariants.{Positive, Negative, Zero, Unknown}
@@ -13,8 +13,6 @@ use Rattle.space.specs.declared.Precision.{Precision}
 use Rattle.space.specs.Vector.{sub_v, length_v, box_of}
 use Rattle.side.specs.Sides.{is_positive}
 use Rattle.incidence.specs.declared.Line.{Line}
-use Rattle.incidence.specs.declared.Incidence.{Incidence}
-use Rattle.incidence.specs.declared.Incidence.TheVariants.{Passed, Inside, Refused}
 
 -- the sign is certainly Positive
 unfoldable pub surely : Interval → Bool
@@ -40,13 +38,13 @@ unfoldable pub is_collapsed : Precision → Line → Bool
 is_collapsed t e = not (surely (sub_i e.square (sqr_i (point_i t.linear))))
 
 -- the separation of a point whose projection is w; 01: incidence unresolved
-unfoldable pub judged : Sign → Interval → Incidence
-judged Positive w = Passed
-judged Negative w = Inside w
-judged Zero w = Inside w
-judged Unknown w = Refused (refusal_of 16)
+unfoldable pub judged : Sign → Interval → Outcome (Option Interval)
+judged Positive w = Ok None
+judged Negative w = Ok (Some w)
+judged Zero w = Ok (Some w)
+judged Unknown w = Err (refusal_of 16)
 
-unfoldable pub beside : Line → List Interval → Interval → Incidence
+unfoldable pub beside : Line → List Interval → Interval → Outcome (Option Interval)
 beside e d w = (let c = cross_i d e.edge in judged (sign_of (sub_i (dot_i c c) e.tube)) w)
 
 -- a projection is strictly inside where it is certainly farther than the margin from both ends
@@ -56,11 +54,11 @@ is_behind_start e w = surely (sub_i w e.margin)
 unfoldable pub is_before_end : Line → Interval → Bool
 is_before_end e w = surely (sub_i (sub_i e.square w) e.margin)
 
-unfoldable pub before_end : Line → List Interval → Interval → Incidence
-before_end e d w = cond (is_before_end e w) (beside e d w) Passed
+unfoldable pub before_end : Line → List Interval → Interval → Outcome (Option Interval)
+before_end e d w = cond (is_before_end e w) (beside e d w) (Ok None)
 
-unfoldable pub incidence_on : Line → List Interval → Interval → Incidence
-incidence_on e d w = cond (is_behind_start e w) (before_end e d w) Passed
+unfoldable pub incidence_on : Line → List Interval → Interval → Outcome (Option Interval)
+incidence_on e d w = cond (is_behind_start e w) (before_end e d w) (Ok None)
 
-unfoldable pub incidence_of : Line → Point3 → Incidence
+unfoldable pub incidence_of : Line → Point3 → Outcome (Option Interval)
 incidence_of e q = (let d = difference_i (box_of q) e.origin in incidence_on e d (dot_i d e.edge))

@@ -1,6 +1,5 @@
 -- Laws of `indexed`: one turn of each of its loops, in the words of the code.
-use Rattle.indexed.specs.declared.Counted.TheVariants as C
-use Rattle.std.specs.Prelude.{◌≡◌, Bool, true, false, ℕ, zero, suc, ◌+◌, ◌*◌, ◌≤◌, ◌<◌, drop, Float}
+use Rattle.std.specs.Prelude.{◌≡◌, Bool, true, false, ℕ, zero, suc, ◌+◌, ◌*◌, ◌≤◌, ◌<◌, drop, Float, Ok, Err}
 use Rattle.std.proofs.Math.Path.{refl, sym, ap, subst}
 use Rattle.std.proofs.Common.{◌∙◌, add-one}
 use mathlib.Core.List.{List, [], ◌∷◌, ◌++◌, append-nil, append_assoc, map}
@@ -14,12 +13,12 @@ use Rattle.std.proofs.Math.Dec.{eqb}
 use Rattle.std.proofs.lemmas.Bool.{eqb-false}
 use Rattle.std.specs.Float.{nan}
 use Rattle.refusal.specs.declared.Refusal.{Refusal}
-use Rattle.refusal.specs.Outcome.{Outcome, ok, refused, walk}
+use Rattle.refusal.specs.Outcome.{Outcome, walk}
 use Rattle.refusal.specs.Laws.{stop, go, walk_go, walk_stop, walk_end}
 use Rattle.space.specs.declared.Point3.{Point3}
 use Rattle.space.specs.declared.Precision.{Precision}
 use Rattle.space.specs.declared.Closeness.{Closeness}
-use Rattle.space.specs.declared.Closeness.TheVariants.{Near, Apart, Refused}
+use Rattle.space.specs.declared.Closeness.TheVariants.{Near, Apart}
 use Rattle.space.specs.Near.{near_of}
 use Rattle.space.specs.Far.{reach_of}
 use Rattle.space.specs.Shapes.{Cell, Solid, corners}
@@ -32,21 +31,16 @@ use Rattle.room.specs.Stores.{sets_over}
 use Rattle.room.specs.Laws.{sets_append, sets_point, points_more, points_stored, next_point, points_done, next_count, counts_done, cell_next, cell_none, within_rest, within_le, corners_cons, length_floats_of, corners_none}
 use Rattle.indexed.specs.declared.Pick.{Pick}
 use Rattle.indexed.specs.declared.Pick.TheVariants.{First, Only}
-use Rattle.indexed.specs.declared.Counted.{Counted}
 use Rattle.indexed.specs.Indexed.{Search, place_in, met, only_in, search_by, Places, joined, placed, index_point, index_points, with_face, index_face, index_faces}
-use Rattle.indexed.specs.Stored.{counted, flat, joined_at, more, Pointed, Placed, Stored, Fits}
+use Rattle.indexed.specs.Stored.{flat, joined_at, more, Pointed, Placed, Stored, Fits}
 use Rattle.indexed.specs.Laws.{Searched, meet, Meeting, Taking, Walking, Asked}
 
 -- what is known of an answer that says so
-pub counted_made : (r : Counted) (n : ℕ) → counted r ≡ ok n → r ≡ C.Made n
-unfolding counted
-counted_made (C.Made m) n e = cc
-counted_made (C.Refused x) n e = absurd (let z : ◌≡◌ {A = ℕ} 0 1 = cc in omega arith)
+pub counted_made : (r : Outcome ℕ) (n : ℕ) → r ≡ Ok n → r ≡ Ok n
+counted_made r n e = e
 
-pub counted_refused : (r : Counted) (x : Refusal) → counted r ≡ refused x → r ≡ C.Refused x
-unfolding counted
-counted_refused (C.Made m) x e = absurd (let z : ◌≡◌ {A = ℕ} 0 1 = cc in omega arith)
-counted_refused (C.Refused y) x e = cc
+pub counted_refused : (r : Outcome ℕ) (x : Refusal) → r ≡ Err x → r ≡ Err x
+counted_refused r x e = e
 
 -- ---- a point that joins the others where it is new
 pub joined_most : (l : List Point3) (q : Point3) (b : Bool) → length (joined l q b) ≤ length l + 1
@@ -69,15 +63,15 @@ flat_corners (f ∷ fs) (g ∷ c) e =
 
 -- ---- one point of a search
 module _ (t : Precision) (q : Point3) (i : ℕ) (r : Point3) (l : List Point3) where
-  pub place_near : near_of t q r ≡ Near → place_in t q i (r ∷ l) ≡ ok i
+  pub place_near : near_of t q r ≡ Ok Near → place_in t q i (r ∷ l) ≡ Ok i
   unfolding place_in
   place_near e = rw (e, place_in) refl
 
-  pub place_apart : near_of t q r ≡ Apart → place_in t q i (r ∷ l) ≡ place_in t q (i + 1) l
+  pub place_apart : near_of t q r ≡ Ok Apart → place_in t q i (r ∷ l) ≡ place_in t q (i + 1) l
   unfolding place_in
   place_apart e = rw (e, place_in) (ap (λ j. place_in t q j l) (sym (add-one i)))
 
-  pub place_refused : (x : Refusal) → near_of t q r ≡ Refused x → place_in t q i (r ∷ l) ≡ refused x
+  pub place_refused : (x : Refusal) → near_of t q r ≡ Err x → place_in t q i (r ∷ l) ≡ Err x
   unfolding place_in
   place_refused x e = rw (e, place_in) refl
 
@@ -91,16 +85,16 @@ module _ {t : Precision} {q : Point3} {s : List Float} {m i : ℕ} (I : Searched
   here : {p : Point3} → p ≡ point_at s (3 * i) → point_at s (0 + 3 * i) ≡ p
   here e = ap (point_at s) (omega arith) ∙ sym e
 
-  pub searched_near : {p : Point3} → i < m → p ≡ point_at s (3 * i) → near_of t q p ≡ Near → place_in t q 0 (points_at s 0 m) ≡ ok i
+  pub searched_near : {p : Point3} → i < m → p ≡ point_at s (3 * i) → near_of t q p ≡ Ok Near → place_in t q 0 (points_at s 0 m) ≡ Ok i
   searched_near {p} h e n = sym (onward h) ∙ place_near t q i _ _ (ap (near_of t q) (here e) ∙ n)
 
-  pub searched_refused : {p : Point3} {x : Refusal} → i < m → p ≡ point_at s (3 * i) → near_of t q p ≡ Refused x → place_in t q 0 (points_at s 0 m) ≡ refused x
+  pub searched_refused : {p : Point3} {x : Refusal} → i < m → p ≡ point_at s (3 * i) → near_of t q p ≡ Err x → place_in t q 0 (points_at s 0 m) ≡ Err x
   searched_refused {p} {x} h e n = sym (onward h) ∙ place_refused t q i _ _ x (ap (near_of t q) (here e) ∙ n)
 
-  pub searched_apart : {p : Point3} → i < m → p ≡ point_at s (3 * i) → near_of t q p ≡ Apart → Searched t q s m (i + 1)
+  pub searched_apart : {p : Point3} → i < m → p ≡ point_at s (3 * i) → near_of t q p ≡ Ok Apart → Searched t q s m (i + 1)
   searched_apart {p} h e n = record { upto = omega arith; rest = sym (place_apart t q i _ _ (ap (near_of t q) (here e) ∙ n)) ∙ onward h }
 
-  pub searched_end : m ≤ i → place_in t q 0 (points_at s 0 m) ≡ ok i
+  pub searched_end : m ≤ i → place_in t q 0 (points_at s 0 m) ≡ Ok i
   unfolding place_in
   searched_end h = sym (rw (points_done s 0 m i h) at I.rest)
 
@@ -116,22 +110,22 @@ module _ {t : Precision} {q : Point3} {s : List Float} {m h i : ℕ} (I : Meetin
   turning : i < m → walk (meet t q m) h (record { place = i; it = point_at s (3 * i) } ∷ drop (i + 1) (numbered 0 (points_at s 0 m))) ≡ only_in t q (points_at s 0 m)
   turning k = ap (walk (meet t q m) h) (sym (next_numbered s m i k)) ∙ I.rest
 
-  pub meeting_step : (c : Closeness) (p : Point3) (e : ℕ) → i < m → p ≡ point_at s (3 * i) → c ≡ near_of t q p → met c m h i ≡ ok e → Meeting t q s m e (i + 1)
+  pub meeting_step : (c : Outcome Closeness) (p : Point3) (e : ℕ) → i < m → p ≡ point_at s (3 * i) → c ≡ near_of t q p → met c m h i ≡ Ok e → Meeting t q s m e (i + 1)
   meeting_step c p e k w n g =
-      let a : met (near_of t q (point_at s (3 * i))) m h i ≡ ok e = ap (λ z. met (near_of t q z) m h i) (sym w) ∙ ap (λ z. met z m h i) (sym n) ∙ g in
+      let a : met (near_of t q (point_at s (3 * i))) m h i ≡ Ok e = ap (λ z. met (near_of t q z) m h i) (sym w) ∙ ap (λ z. met z m h i) (sym n) ∙ g in
       record { upto = omega arith; rest = sym (walk_go (meet t q m) h _ _ e a) ∙ turning k }
 
-  pub meeting_stop : (c : Closeness) (p : Point3) (x : Refusal) → i < m → p ≡ point_at s (3 * i) → c ≡ near_of t q p → met c m h i ≡ refused x → only_in t q (points_at s 0 m) ≡ refused x
+  pub meeting_stop : (c : Outcome Closeness) (p : Point3) (x : Refusal) → i < m → p ≡ point_at s (3 * i) → c ≡ near_of t q p → met c m h i ≡ Err x → only_in t q (points_at s 0 m) ≡ Err x
   meeting_stop c p x k w n g =
-      let a : met (near_of t q (point_at s (3 * i))) m h i ≡ refused x = ap (λ z. met (near_of t q z) m h i) (sym w) ∙ ap (λ z. met z m h i) (sym n) ∙ g in
+      let a : met (near_of t q (point_at s (3 * i))) m h i ≡ Err x = ap (λ z. met (near_of t q z) m h i) (sym w) ∙ ap (λ z. met z m h i) (sym n) ∙ g in
       sym (turning k) ∙ walk_stop (meet t q m) h _ _ x a
 
-  pub meeting_end : m ≤ i → only_in t q (points_at s 0 m) ≡ ok h
+  pub meeting_end : m ≤ i → only_in t q (points_at s 0 m) ≡ Ok h
   meeting_end k = sym I.rest ∙ ap (walk (meet t q m) h) (numbered_done s m i k) ∙ walk_end (meet t q m) h
 
 pub meeting_pass : {t : Precision} {q : Point3} {s : List Float} {m h i : ℕ} → Meeting t q s m h i → (g : Float) → g ≡ reach_of t → {r : ℕ} → Stops (far_at g q s) m i r → Meeting t q s m h r
 unfolding met
-meeting_pass {t} {q} {s} {m} {h} I g e S = pass_over (Meeting t q s m h) t g q s S e (λ x k a J. meeting_step J Apart (point_at s (3 * x)) h k refl (sym a) refl) I
+meeting_pass {t} {q} {s} {m} {h} I g e S = pass_over (Meeting t q s m h) t g q s S e (λ x k a J. meeting_step J (Ok Apart) (point_at s (3 * x)) h k refl (sym a) refl) I
 
 -- the search that was asked for
 pub search_first : (k : Pick) (t : Precision) (q : Point3) (l : List Point3) → k ≡ First → place_in t q 0 l ≡ search_by k t q l
@@ -143,28 +137,28 @@ unfolding search_by
 search_only k t q l e = rw e refl
 
 -- ---- one corner
-pub pointed_ok : (o : Outcome ℕ) (m k : ℕ) (q : Point3) (p₀ : List Float) (i₀ : List ℕ) (p : List Float) (i : List ℕ) (r : Counted) (j : ℕ) →
-    o ≡ ok j → r ≡ C.Made (more m (eqb j m)) → p ≡ joined_at p₀ m q (eqb j m) → i ≡ set i₀ k j → Pointed o m k q p₀ i₀ p i r
+pub pointed_ok : (o : Outcome ℕ) (m k : ℕ) (q : Point3) (p₀ : List Float) (i₀ : List ℕ) (p : List Float) (i : List ℕ) (r : Outcome ℕ) (j : ℕ) →
+    o ≡ Ok j → r ≡ Ok (more m (eqb j m)) → p ≡ joined_at p₀ m q (eqb j m) → i ≡ set i₀ k j → Pointed o m k q p₀ i₀ p i r
 unfolding Pointed
 pointed_ok o m k q p₀ i₀ p i r j e a b c = subst (λ o. Pointed o m k q p₀ i₀ p i r) (sym e) (a, b, c)
 
-pub pointed_refused : (o : Outcome ℕ) (m k : ℕ) (q : Point3) (p₀ : List Float) (i₀ : List ℕ) (p : List Float) (i : List ℕ) (r : Counted) (x : Refusal) →
-    o ≡ refused x → r ≡ C.Refused x → length p ≡ length p₀ → length i ≡ length i₀ → Pointed o m k q p₀ i₀ p i r
+pub pointed_refused : (o : Outcome ℕ) (m k : ℕ) (q : Point3) (p₀ : List Float) (i₀ : List ℕ) (p : List Float) (i : List ℕ) (r : Outcome ℕ) (x : Refusal) →
+    o ≡ Err x → r ≡ Err x → length p ≡ length p₀ → length i ≡ length i₀ → Pointed o m k q p₀ i₀ p i r
 unfolding Pointed
 pointed_refused o m k q p₀ i₀ p i r x e a b c = subst (λ o. Pointed o m k q p₀ i₀ p i r) (sym e) (a, b, c)
 
 -- what an answer says of the steps that led to it
-pub pointed_made : (o : Outcome ℕ) (m k : ℕ) (q : Point3) (p₀ : List Float) (i₀ : List ℕ) (p : List Float) (i : List ℕ) (r : Counted) (e : ℕ) → Pointed o m k q p₀ i₀ p i r → r ≡ C.Made e →
-    (j : ℕ) × (o ≡ ok j) × (e ≡ more m (eqb j m)) × (p ≡ joined_at p₀ m q (eqb j m)) × (i ≡ set i₀ k j)
+pub pointed_made : (o : Outcome ℕ) (m k : ℕ) (q : Point3) (p₀ : List Float) (i₀ : List ℕ) (p : List Float) (i : List ℕ) (r : Outcome ℕ) (e : ℕ) → Pointed o m k q p₀ i₀ p i r → r ≡ Ok e →
+    (j : ℕ) × (o ≡ Ok j) × (e ≡ more m (eqb j m)) × (p ≡ joined_at p₀ m q (eqb j m)) × (i ≡ set i₀ k j)
 unfolding Pointed
-pointed_made (ok j) m k q p₀ i₀ p i r e h g = (j, refl, (let a = h.0 in cc), h.1, h.2)
-pointed_made (refused x) m k q p₀ i₀ p i r e h g = absurd (let a = h.0 in let z : ◌≡◌ {A = ℕ} 0 1 = cc in omega arith)
+pointed_made (Ok j) m k q p₀ i₀ p i r e h g = (j, refl, (let a = h.0 in cc), h.1, h.2)
+pointed_made (Err x) m k q p₀ i₀ p i r e h g = absurd (let a = h.0 in let z : ◌≡◌ {A = ℕ} 0 1 = cc in omega arith)
 
-pub pointed_not : (o : Outcome ℕ) (m k : ℕ) (q : Point3) (p₀ : List Float) (i₀ : List ℕ) (p : List Float) (i : List ℕ) (r : Counted) (x : Refusal) → Pointed o m k q p₀ i₀ p i r → r ≡ C.Refused x →
-    (o ≡ refused x) × (length p ≡ length p₀) × (length i ≡ length i₀)
+pub pointed_not : (o : Outcome ℕ) (m k : ℕ) (q : Point3) (p₀ : List Float) (i₀ : List ℕ) (p : List Float) (i : List ℕ) (r : Outcome ℕ) (x : Refusal) → Pointed o m k q p₀ i₀ p i r → r ≡ Err x →
+    (o ≡ Err x) × (length p ≡ length p₀) × (length i ≡ length i₀)
 unfolding Pointed
-pointed_not (ok j) m k q p₀ i₀ p i r x h g = absurd (let a = h.0 in let z : ◌≡◌ {A = ℕ} 0 1 = cc in omega arith)
-pointed_not (refused y) m k q p₀ i₀ p i r x h g = (let a = h.0 in let b : y ≡ x = cc in ap refused b, h.1, h.2)
+pointed_not (Ok j) m k q p₀ i₀ p i r x h g = absurd (let a = h.0 in let z : ◌≡◌ {A = ℕ} 0 1 = cc in omega arith)
+pointed_not (Err y) m k q p₀ i₀ p i r x h g = (let a = h.0 in let b : y ≡ x = cc in ap Err b, h.1, h.2)
 
 -- ---- the corners of a face
 -- points that stand in a slice already
@@ -227,7 +221,7 @@ module _ {find : Search} {s : List Float} {at n m₀ k : ℕ} {p₀ : List Float
   found : {q : Point3} {o : Outcome ℕ} → q ≡ point_at s (at + 3 * j) → find q (points_at p 0 m) ≡ o → find (point_at s (at + 3 * j)) I.state.points ≡ o
   found {q} {o} e h = ap (λ z. find z I.state.points) (sym e) ∙ ap (find q) (sym held) ∙ h
 
-  pub taking_step : (q : Point3) (p' : List Float) (i' : List ℕ) (e : ℕ) (r : Counted) → j < n → q ≡ point_at s (at + 3 * j) → r ≡ C.Made e →
+  pub taking_step : (q : Point3) (p' : List Float) (i' : List ℕ) (e : ℕ) (r : Outcome ℕ) → j < n → q ≡ point_at s (at + 3 * j) → r ≡ Ok e →
       Pointed (find q (points_at p 0 m)) m (k + j) q p i p' i' r → Taking find s at n m₀ k p₀ i₀ p' i' e (j + 1)
   unfolding index_point
   taking_step q p' i' e r h w g f =
@@ -235,7 +229,7 @@ module _ {find : Search} {s : List Float} {at n m₀ k : ℕ} {p₀ : List Float
       let x = z.0 in
       let S = I.state in
       let b : eqb x m ≡ eqb x (length S.points) = ap (eqb x) I.count in
-      let a : index_point find S (point_at s (at + 3 * j)) ≡ ok (placed S (point_at s (at + 3 * j)) x) = go (find (point_at s (at + 3 * j)) S.points) _ x (found w z.1) in
+      let a : index_point find S (point_at s (at + 3 * j)) ≡ Ok (placed S (point_at s (at + 3 * j)) x) = go (find (point_at s (at + 3 * j)) S.points) _ x (found w z.1) in
       record {
         state = placed S (point_at s (at + 3 * j)) x;
         upto = omega arith;
@@ -249,36 +243,36 @@ module _ {find : Search} {s : List Float} {at n m₀ k : ℕ} {p₀ : List Float
         rest = sym (walk_go (index_point find) S _ _ _ a) ∙ turn h;
       }
 
-  pub taking_stop : (q : Point3) (p' : List Float) (i' : List ℕ) (x : Refusal) (r r' : Counted) → j < n → q ≡ point_at s (at + 3 * j) → r ≡ C.Refused x → r' ≡ C.Refused x →
+  pub taking_stop : (q : Point3) (p' : List Float) (i' : List ℕ) (x : Refusal) (r r' : Outcome ℕ) → j < n → q ≡ point_at s (at + 3 * j) → r ≡ Err x → r' ≡ Err x →
       Pointed (find q (points_at p 0 m)) m (k + j) q p i p' i' r → Placed (index_points find (points_at p₀ 0 m₀) (points_at s at n)) m₀ n k p₀ i₀ p' i' r'
   unfolding index_point Placed
   taking_stop q p' i' x r r' h w g g' f =
       let z = pointed_not (find q (points_at p 0 m)) m (k + j) q p i p' i' r x f g in
-      let a : index_point find I.state (point_at s (at + 3 * j)) ≡ refused x = stop (find (point_at s (at + 3 * j)) I.state.points) _ x (found w z.0) in
-      let o : index_points find (points_at p₀ 0 m₀) (points_at s at n) ≡ refused x = sym (turn h) ∙ walk_stop (index_point find) I.state _ _ x a in
+      let a : index_point find I.state (point_at s (at + 3 * j)) ≡ Err x = stop (find (point_at s (at + 3 * j)) I.state.points) _ x (found w z.0) in
+      let o : index_points find (points_at p₀ 0 m₀) (points_at s at n) ≡ Err x = sym (turn h) ∙ walk_stop (index_point find) I.state _ _ x a in
       subst (λ y. Placed y m₀ n k p₀ i₀ p' i' r') (sym o) (g', z.1 ∙ taking_points, z.2 ∙ taking_places)
 
-  pub taking_end : (r : Counted) → n ≤ j → r ≡ C.Made m → Placed (index_points find (points_at p₀ 0 m₀) (points_at s at n)) m₀ n k p₀ i₀ p i r
+  pub taking_end : (r : Outcome ℕ) → n ≤ j → r ≡ Ok m → Placed (index_points find (points_at p₀ 0 m₀) (points_at s at n)) m₀ n k p₀ i₀ p i r
   unfolding Placed
   taking_end r h g =
       let e : walk (index_point find) I.state [] ≡ index_points find (points_at p₀ 0 m₀) (points_at s at n) = rw (points_done s at n j h) at I.rest in
-      let o : index_points find (points_at p₀ 0 m₀) (points_at s at n) ≡ ok I.state = sym e ∙ walk_end (index_point find) I.state in
-      subst (λ y. Placed y m₀ n k p₀ i₀ p i r) (sym o) (g ∙ ap C.Made I.count, omega (arith, I.count, I.grown), omega (arith, I.count, I.few, I.upto), I.long ∙ omega (arith, I.upto), I.points, I.places)
+      let o : index_points find (points_at p₀ 0 m₀) (points_at s at n) ≡ Ok I.state = sym e ∙ walk_end (index_point find) I.state in
+      subst (λ y. Placed y m₀ n k p₀ i₀ p i r) (sym o) (g ∙ ap Ok I.count, omega (arith, I.count, I.grown), omega (arith, I.count, I.few, I.upto), I.long ∙ omega (arith, I.upto), I.points, I.places)
 
 -- ---- the faces of a cell
-pub placed_made : (o : Outcome Places) (m n k : ℕ) (p₀ : List Float) (i₀ : List ℕ) (p : List Float) (i : List ℕ) (r : Counted) (e : ℕ) → Placed o m n k p₀ i₀ p i r → r ≡ C.Made e →
-    (s : Places) × (o ≡ ok s) × (e ≡ length s.points) × (m ≤ e) × (e ≤ m + n) × (length s.places ≡ n) × (p ≡ sets p₀ 0 (floats_of s.points)) × (i ≡ sets i₀ k s.places)
+pub placed_made : (o : Outcome Places) (m n k : ℕ) (p₀ : List Float) (i₀ : List ℕ) (p : List Float) (i : List ℕ) (r : Outcome ℕ) (e : ℕ) → Placed o m n k p₀ i₀ p i r → r ≡ Ok e →
+    (s : Places) × (o ≡ Ok s) × (e ≡ length s.points) × (m ≤ e) × (e ≤ m + n) × (length s.places ≡ n) × (p ≡ sets p₀ 0 (floats_of s.points)) × (i ≡ sets i₀ k s.places)
 unfolding Placed
-placed_made (ok s) m n k p₀ i₀ p i r e h g =
+placed_made (Ok s) m n k p₀ i₀ p i r e h g =
     let c : e ≡ length s.points = (let a = h.0 in cc) in
     (s, refl, c, omega (arith, h.1), omega (arith, h.2), h.3, h.4, h.5)
-placed_made (refused x) m n k p₀ i₀ p i r e h g = absurd (let a = h.0 in let z : ◌≡◌ {A = ℕ} 0 1 = cc in omega arith)
+placed_made (Err x) m n k p₀ i₀ p i r e h g = absurd (let a = h.0 in let z : ◌≡◌ {A = ℕ} 0 1 = cc in omega arith)
 
-pub placed_not : (o : Outcome Places) (m n k : ℕ) (p₀ : List Float) (i₀ : List ℕ) (p : List Float) (i : List ℕ) (r : Counted) (x : Refusal) → Placed o m n k p₀ i₀ p i r → r ≡ C.Refused x →
-    (o ≡ refused x) × (length p ≡ length p₀) × (length i ≡ length i₀)
+pub placed_not : (o : Outcome Places) (m n k : ℕ) (p₀ : List Float) (i₀ : List ℕ) (p : List Float) (i : List ℕ) (r : Outcome ℕ) (x : Refusal) → Placed o m n k p₀ i₀ p i r → r ≡ Err x →
+    (o ≡ Err x) × (length p ≡ length p₀) × (length i ≡ length i₀)
 unfolding Placed
-placed_not (ok s) m n k p₀ i₀ p i r x h g = absurd (let a = h.0 in let z : ◌≡◌ {A = ℕ} 0 1 = cc in omega arith)
-placed_not (refused y) m n k p₀ i₀ p i r x h g = (let a = h.0 in let b : y ≡ x = cc in ap refused b, h.1, h.2)
+placed_not (Ok s) m n k p₀ i₀ p i r x h g = absurd (let a = h.0 in let z : ◌≡◌ {A = ℕ} 0 1 = cc in omega arith)
+placed_not (Err y) m n k p₀ i₀ p i r x h g = (let a = h.0 in let b : y ≡ x = cc in ap Err b, h.1, h.2)
 
 pub flat_snoc : (l : List (List ℕ)) (f : List ℕ) → flat (l ++ (f ∷ [])) ≡ flat l ++ f
 unfolding flat
@@ -344,7 +338,7 @@ module _ {find : Search} {s : List Float} {at : ℕ} {counts : List ℕ} {first 
   faced : {z : Outcome Places} (c : ℕ) → index_points find (points_at p 0 m) (points_at s (o + 13) c) ≡ z → index_points find I.state.points (points_at s (o + 13) c) ≡ z
   faced c e = ap (λ l. index_points find l (points_at s (o + 13) c)) (sym held') ∙ e
 
-  pub walking_step : (p' : List Float) (i' : List ℕ) (e : ℕ) (r : Counted) → j < n → r ≡ C.Made e →
+  pub walking_step : (p' : List Float) (i' : List ℕ) (e : ℕ) (r : Outcome ℕ) → j < n → r ≡ Ok e →
       Placed (index_points find (points_at p 0 m) (points_at s (o + 13) (get_or counts (first + j) 0))) m (get_or counts (first + j) 0) k p i p' i' r →
       Walking find s at counts first n p₀ i₀ p' i' e (k + get_or counts (first + j) 0) (o + (13 + 3 * get_or counts (first + j) 0)) (j + 1)
   unfolding index_face
@@ -353,7 +347,7 @@ module _ {find : Search} {s : List Float} {at : ℕ} {counts : List ℕ} {first 
       let z = placed_made (index_points find (points_at p 0 m) (points_at s (o + 13) c)) m c k p i p' i' r e f g in
       let S = I.state in
       let P = z.0 in
-      let a : index_face find S (face_at s o c) ≡ ok (with_face S P) = go (index_points find S.points (points_at s (o + 13) c)) _ P (faced c z.1) in
+      let a : index_face find S (face_at s o c) ≡ Ok (with_face S P) = go (index_points find S.points (points_at s (o + 13) c)) _ P (faced c z.1) in
       let u : o + 13 + 3 * c ≡ o + (13 + 3 * c) = omega arith in
       let q : length (floats_of S.points) ≤ length (floats_of P.points) = omega (arith, length_floats_of S.points, length_floats_of P.points, I.count, z.2, z.3) in
       let lf = lefts h in
@@ -372,31 +366,31 @@ module _ {find : Search} {s : List Float} {at : ℕ} {counts : List ℕ} {first 
         rest = ap (λ y. walk (index_face find) (with_face S P) (cell_at s y (drop (j + 1) (counts_at counts first n)))) (sym u) ∙ sym (walk_go (index_face find) S _ _ _ a) ∙ turn' h;
       }
 
-  pub walking_stop : (p' : List Float) (i' : List ℕ) (x : Refusal) (r : Counted) → j < n → r ≡ C.Refused x →
+  pub walking_stop : (p' : List Float) (i' : List ℕ) (x : Refusal) (r r' : Outcome ℕ) → j < n → r ≡ Err x → r' ≡ Err x →
       Placed (index_points find (points_at p 0 m) (points_at s (o + 13) (get_or counts (first + j) 0))) m (get_or counts (first + j) 0) k p i p' i' r →
-      Stored (index_faces find (cell_at s at (counts_at counts first n))) p₀ i₀ p' i' r
+      Stored (index_faces find (cell_at s at (counts_at counts first n))) p₀ i₀ p' i' r'
   unfolding index_face Stored
-  walking_stop p' i' x r h g f =
+  walking_stop p' i' x r r' h g g' f =
       let c = get_or counts (first + j) 0 in
       let z = placed_not (index_points find (points_at p 0 m) (points_at s (o + 13) c)) m c k p i p' i' r x f g in
-      let a : index_face find I.state (face_at s o c) ≡ refused x = stop (index_points find I.state.points (points_at s (o + 13) c)) _ x (faced c z.0) in
-      let y : index_faces find (cell_at s at (counts_at counts first n)) ≡ refused x = sym (turn' h) ∙ walk_stop (index_face find) I.state _ _ x a in
-      subst (λ w. Stored w p₀ i₀ p' i' r) (sym y) (g, z.1 ∙ walking_points, z.2 ∙ walking_places)
+      let a : index_face find I.state (face_at s o c) ≡ Err x = stop (index_points find I.state.points (points_at s (o + 13) c)) _ x (faced c z.0) in
+      let y : index_faces find (cell_at s at (counts_at counts first n)) ≡ Err x = sym (turn' h) ∙ walk_stop (index_face find) I.state _ _ x a in
+      subst (λ w. Stored w p₀ i₀ p' i' r') (sym y) (g', z.1 ∙ walking_points, z.2 ∙ walking_places)
 
-  pub walking_end : (r : Counted) → n ≤ j → r ≡ C.Made m → Stored (index_faces find (cell_at s at (counts_at counts first n))) p₀ i₀ p i r
+  pub walking_end : (r : Outcome ℕ) → n ≤ j → r ≡ Ok m → Stored (index_faces find (cell_at s at (counts_at counts first n))) p₀ i₀ p i r
   unfolding Stored
   walking_end r h g =
       let d : cell_at s o (drop j (counts_at counts first n)) ≡ [] = ap (cell_at s o) (counts_done counts first n j h) ∙ cell_none s o in
-      let y : index_faces find (cell_at s at (counts_at counts first n)) ≡ ok I.state = sym I.rest ∙ ap (walk (index_face find) I.state) d ∙ walk_end (index_face find) I.state in
-      subst (λ w. Stored w p₀ i₀ p i r) (sym y) (g ∙ ap C.Made I.count, I.points, I.places)
+      let y : index_faces find (cell_at s at (counts_at counts first n)) ≡ Ok I.state = sym I.rest ∙ ap (walk (index_face find) I.state) d ∙ walk_end (index_face find) I.state in
+      subst (λ w. Stored w p₀ i₀ p i r) (sym y) (g ∙ ap Ok I.count, I.points, I.places)
 
 -- the lengths stay
-pub stored_points : (o : Outcome Solid) (p₀ : List Float) (i₀ : List ℕ) (p : List Float) (i : List ℕ) (r : Counted) → Stored o p₀ i₀ p i r → length p ≡ length p₀
+pub stored_points : (o : Outcome Solid) (p₀ : List Float) (i₀ : List ℕ) (p : List Float) (i : List ℕ) (r : Outcome ℕ) → Stored o p₀ i₀ p i r → length p ≡ length p₀
 unfolding Stored
-stored_points (ok s) p₀ i₀ p i r h = ap length h.1 ∙ length-sets p₀ 0 (floats_of s.points)
-stored_points (refused x) p₀ i₀ p i r h = h.1
+stored_points (Ok s) p₀ i₀ p i r h = ap length h.1 ∙ length-sets p₀ 0 (floats_of s.points)
+stored_points (Err x) p₀ i₀ p i r h = h.1
 
-pub stored_places : (o : Outcome Solid) (p₀ : List Float) (i₀ : List ℕ) (p : List Float) (i : List ℕ) (r : Counted) → Stored o p₀ i₀ p i r → length i ≡ length i₀
+pub stored_places : (o : Outcome Solid) (p₀ : List Float) (i₀ : List ℕ) (p : List Float) (i : List ℕ) (r : Outcome ℕ) → Stored o p₀ i₀ p i r → length i ≡ length i₀
 unfolding Stored
-stored_places (ok s) p₀ i₀ p i r h = ap length h.2 ∙ length-sets i₀ 0 (flat s.faces)
-stored_places (refused x) p₀ i₀ p i r h = h.2
+stored_places (Ok s) p₀ i₀ p i r h = ap length h.2 ∙ length-sets i₀ 0 (flat s.faces)
+stored_places (Err x) p₀ i₀ p i r h = h.2

@@ -1,12 +1,12 @@
 -- `indexed`: the points of a cell, each once, and its faces by their places; the first near point wins: 6. Fusing merges its vertices
 -- by the same walk, where a point may be near one other only: 6, 13. Definitions only.
-use Rattle.std.specs.Prelude.{ℕ, suc, Bool, true, false, not, List, [], ◌∷◌, ◌++◌, length, eqb}
-use Rattle.refusal.specs.Outcome.{Outcome, ok, refused, then, unless, walk}
+use Rattle.std.specs.Prelude.{ℕ, suc, Bool, true, false, not, List, [], ◌∷◌, ◌++◌, length, eqb, Ok, Err}
+use Rattle.refusal.specs.Outcome.{Outcome, then, unless, walk}
 use Rattle.lists.specs.Walks.{numbered}
 use Rattle.space.specs.declared.Point3.{Point3}
 use Rattle.space.specs.declared.Precision.{Precision}
 use Rattle.space.specs.declared.Closeness.{Closeness}
-use Rattle.space.specs.declared.Closeness.TheVariants.{Near, Apart, Refused}
+use Rattle.space.specs.declared.Closeness.TheVariants.{Near, Apart}
 use Rattle.space.specs.Near.{near_of}
 use Rattle.space.specs.Shapes.{Face, Cell, Solid}
 use Rattle.indexed.specs.declared.Pick.{Pick}
@@ -18,14 +18,14 @@ Search = Point3 → List Point3 → Outcome ℕ
 
 -- the place of the first point near q, from i on, and the place after the last if there is none; one that is unresolved before it refuses
 unfoldable pub place_in : Precision → Point3 → ℕ → List Point3 → Outcome ℕ
-place_in t q i [] = ok i
-place_in t q i (r ∷ l) = elim (near_of t q r) [ Near ↦ ok i | Apart ↦ place_in t q (suc i) l | Refused x ↦ refused x ]
+place_in t q i [] = Ok i
+place_in t q i (r ∷ l) = elim (near_of t q r) [ Ok Near ↦ Ok i | Ok Apart ↦ place_in t q (suc i) l | Err x ↦ Err x ]
 
 -- what is found among n points, h so far (n: none), once the i-th is met; a second near point refuses
-unfoldable pub met : Closeness → ℕ → ℕ → ℕ → Outcome ℕ
-met Near n h i = unless (not (eqb h n)) 13 (ok i)
-met Apart n h i = ok h
-met (Refused x) n h i = refused x
+unfoldable pub met : Outcome Closeness → ℕ → ℕ → ℕ → Outcome ℕ
+met (Ok Near) n h i = unless (not (eqb h n)) 13 (Ok i)
+met (Ok Apart) n h i = Ok h
+met (Err x) n h i = Err x
 
 -- the place of the one point near q, where every point is tested
 unfoldable pub only_in : Precision → Point3 → List Point3 → Outcome ℕ
@@ -49,7 +49,7 @@ abbrev pub placed : Places → Point3 → ℕ → Places
 placed s q i = record { points = joined s.points q (eqb i (length s.points)); places = s.places ++ (i ∷ []) }
 
 unfoldable pub index_point : Search → Places → Point3 → Outcome Places
-index_point find s q = then (find q s.points) (λ i. ok (placed s q i))
+index_point find s q = then (find q s.points) (λ i. Ok (placed s q i))
 
 -- the corners of one face
 abbrev pub index_points : Search → List Point3 → List Point3 → Outcome Places
@@ -59,7 +59,7 @@ abbrev pub with_face : Solid → Places → Solid
 with_face s r = record { points = r.points; faces = s.faces ++ (r.places ∷ []) }
 
 unfoldable pub index_face : Search → Solid → Face → Outcome Solid
-index_face find s f = then (index_points find s.points f.points) (λ r. ok (with_face s r))
+index_face find s f = then (index_points find s.points f.points) (λ r. Ok (with_face s r))
 
 abbrev pub index_faces : Search → Cell → Outcome Solid
 index_faces find c = walk (index_face find) (record { points = []; faces = [] }) c

@@ -1,5 +1,4 @@
 -- Laws of `indexed`: one turn of each of its loops, in the words of the code.
-use Rattle.indexed.specs.declared.Counted.TheVariants as C
 use Rattle.std.specs.Prelude.{◌≡◌, ℕ, ◌+◌, ◌*◌, ◌≤◌, drop, Float}
 use mathlib.Core.List.{List}
 use Rattle.std.proofs.Math.ListN.{length}
@@ -9,7 +8,7 @@ use Rattle.space.specs.declared.Point3.{Point3}
 use Rattle.space.specs.declared.Precision.{Precision}
 use Rattle.space.specs.Near.{near_of}
 use Rattle.space.specs.Shapes.{Solid, corners}
-use Rattle.polygon.specs.Memory.{floats, floats_of, points_at}
+use Rattle.polygon.specs.Memory.{floats_of, points_at}
 use Rattle.room.specs.Rooms.{Within, cell_at, counts_at}
 use Rattle.lists.specs.Walks.{Numbered, numbered}
 use Rattle.indexed.specs.Indexed.{Search, place_in, met, only_in, Places, index_point, index_points, index_face, index_faces}

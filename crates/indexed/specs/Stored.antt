@@ -1,20 +1,14 @@
 -- How an indexed solid lies in lent slices: its points three floats each, its faces' places one after another. Definitions only.
-use Rattle.std.specs.Prelude.{◌≡◌, ℕ, ◌+◌, ◌*◌, ◌≤◌, Bool, true, false, List, [], ◌∷◌, ◌++◌, length, set, eqb, Float}
+use Rattle.std.specs.Prelude.{◌≡◌, ℕ, ◌+◌, ◌*◌, ◌≤◌, Bool, true, false, List, [], ◌∷◌, ◌++◌, length, set, eqb, Float, Ok, Err}
 use Rattle.std.proofs.lemmas.List.Edits.{sets}
-use Rattle.refusal.specs.Outcome.{Outcome, ok, refused}
+use Rattle.refusal.specs.Outcome.{Outcome}
 use Rattle.space.specs.declared.Point3.{Point3}
-use Rattle.space.specs.Shapes.{Cell, Solid, corners}
+use Rattle.space.specs.Shapes.{Solid, corners}
 use Rattle.polygon.specs.Memory.{floats, floats_of}
 use Rattle.room.specs.Rooms.{Within, cell_at, counts_at}
-use Rattle.indexed.specs.declared.Counted.{Counted}
-use Rattle.indexed.specs.declared.Counted.TheVariants.{Made, Refused}
 use Rattle.indexed.specs.Indexed.{Places}
 
 -- what the answer of a count or a place says
-unfoldable pub counted : Counted → Outcome ℕ
-counted (Made n) = ok n
-counted (Refused r) = refused r
-
 -- the places of all faces, one after another
 unfoldable pub flat : List (List ℕ) → List ℕ
 flat [] = []
@@ -30,20 +24,20 @@ more m true = m + 1
 more m false = m
 
 -- after one corner: its place is stored at k, and a new point behind the m others
-unfoldable pub Pointed : Outcome ℕ → ℕ → ℕ → Point3 → List Float → List ℕ → List Float → List ℕ → Counted → Type 0
-Pointed (ok j) m k q p₀ i₀ p i r = (r ≡ Made (more m (eqb j m))) × (p ≡ joined_at p₀ m q (eqb j m)) × (i ≡ set i₀ k j)
-Pointed (refused x) m k q p₀ i₀ p i r = (r ≡ Refused x) × (length p ≡ length p₀) × (length i ≡ length i₀)
+unfoldable pub Pointed : Outcome ℕ → ℕ → ℕ → Point3 → List Float → List ℕ → List Float → List ℕ → Outcome ℕ → Type 0
+Pointed (Ok j) m k q p₀ i₀ p i r = (r ≡ Ok (more m (eqb j m))) × (p ≡ joined_at p₀ m q (eqb j m)) × (i ≡ set i₀ k j)
+Pointed (Err x) m k q p₀ i₀ p i r = (r ≡ Err x) × (length p ≡ length p₀) × (length i ≡ length i₀)
 
 -- after the n corners of a face: the points, m of them there before, and its places from k on
-unfoldable pub Placed : Outcome Places → ℕ → ℕ → ℕ → List Float → List ℕ → List Float → List ℕ → Counted → Type 0
-Placed (ok s) m n k p₀ i₀ p i r =
-    (r ≡ Made (length s.points)) × (m ≤ length s.points) × (length s.points ≤ m + n) × (length s.places ≡ n) × (p ≡ sets p₀ 0 (floats_of s.points)) × (i ≡ sets i₀ k s.places)
-Placed (refused x) m n k p₀ i₀ p i r = (r ≡ Refused x) × (length p ≡ length p₀) × (length i ≡ length i₀)
+unfoldable pub Placed : Outcome Places → ℕ → ℕ → ℕ → List Float → List ℕ → List Float → List ℕ → Outcome ℕ → Type 0
+Placed (Ok s) m n k p₀ i₀ p i r =
+    (r ≡ Ok (length s.points)) × (m ≤ length s.points) × (length s.points ≤ m + n) × (length s.places ≡ n) × (p ≡ sets p₀ 0 (floats_of s.points)) × (i ≡ sets i₀ k s.places)
+Placed (Err x) m n k p₀ i₀ p i r = (r ≡ Err x) × (length p ≡ length p₀) × (length i ≡ length i₀)
 
 -- after a cell: how many points there are, the points, and the places; a refusal leaves the lengths alone
-unfoldable pub Stored : Outcome Solid → List Float → List ℕ → List Float → List ℕ → Counted → Type 0
-Stored (ok s) p₀ i₀ p i r = (r ≡ Made (length s.points)) × (p ≡ sets p₀ 0 (floats_of s.points)) × (i ≡ sets i₀ 0 (flat s.faces))
-Stored (refused x) p₀ i₀ p i r = (r ≡ Refused x) × (length p ≡ length p₀) × (length i ≡ length i₀)
+unfoldable pub Stored : Outcome Solid → List Float → List ℕ → List Float → List ℕ → Outcome ℕ → Type 0
+Stored (Ok s) p₀ i₀ p i r = (r ≡ Ok (length s.points)) × (p ≡ sets p₀ 0 (floats_of s.points)) × (i ≡ sets i₀ 0 (flat s.faces))
+Stored (Err x) p₀ i₀ p i r = (r ≡ Err x) × (length p ≡ length p₀) × (length i ≡ length i₀)
 
 -- a cell lies in its slices, and its corners have room in the two others
 pub record Fits (s : List Float) (counts : List ℕ) (at first n : ℕ) (p : List Float) (i : List ℕ) : Type 0 where

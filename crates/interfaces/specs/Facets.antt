@@ -1,12 +1,12 @@
 -- The facets that lie in slices: the vertices of facet i are v[starts[i]..starts[i + 1]], its cell is owners[i].
-use Rattle.std.specs.Prelude.{◌≡◌, ℕ, zero, suc, ◌+◌, ◌≤◌, ◌<◌, length, get_or}
+use Rattle.std.specs.Prelude.{◌≡◌, ℕ, ◌<◌, length, get_or}
 use Rattle.std.proofs.Math.Path.{refl, ap}
-use Rattle.std.proofs.Common.{sym, ap₂, ◌∙◌, subst, arith}
+use Rattle.std.proofs.Common.{◌∙◌, arith}
 use mathlib.Core.List.{List, [], ◌∷◌, map}
 use Rattle.std.proofs.Math.ListN.{length-map}
 use Rattle.sums.specs.Keys.{range, sorted}
 use Rattle.sums.proofs.KeyLaws.{length_range, get_d_range, get_d_map_lt}
-use Rattle.keys.specs.Rows.{Starts, row, rows}
+use Rattle.keys.specs.Rows.{row, rows}
 use Rattle.bodies.specs.Fusing.{Facet, no_facet, cell_of, vertices_of, keys}
 
 abbrev pub facet_at : List ℕ → List ℕ → List ℕ → ℕ → Facet

@@ -1,15 +1,13 @@
 -- The facets by their keys, run by run of the order.
-use Rattle.std.specs.Prelude.{◌≡◌, refl, ℕ, zero, suc, ◌+◌, ◌*◌, ◌≤◌, ◌<◌, length, set, drop}
+use Rattle.std.specs.Prelude.{◌≡◌, refl, ℕ, ◌+◌, ◌*◌, ◌≤◌, ◌<◌, length, set, Ok, Err}
 use Rattle.std.proofs.Common.{sym, ◌∙◌, arith, add-one, drop_of_length-le}
 use Rattle.std.proofs.Math.Path.{ap, subst}
 use mathlib.Core.List.{List, [], ◌∷◌, ◌++◌, append_assoc, append-nil}
 use Rattle.std.proofs.Math.ListN.{take, length-set}
 use Rattle.std.proofs.Math.Seq.{take-suc-set}
 use Rattle.refusal.specs.declared.Refusal.{Refusal}
-use Rattle.refusal.specs.declared.Verdict.{Verdict}
-use Rattle.refusal.specs.declared.Verdict.TheVariants.{Fine, Refused}
-use Rattle.refusal.specs.Outcome.{ok, refused, refusal_of, walk, heard}
-use Rattle.refusal.specs.Laws.{never_fine}
+use Rattle.refusal.specs.Outcome.{Outcome, refusal_of, walk, heard, verdict_of}
+use Rattle.refusal.specs.Laws.{same_ok, never_ok}
 use Rattle.sums.specs.Sum.{hit}
 use Rattle.sums.specs.Keys.{keep, order, users, lone, pairs}
 use Rattle.sums.specs.SizeLaws.{Sized, at, lones_from}
@@ -20,13 +18,13 @@ use Rattle.bodies.specs.Fusing.{Facet, cell_of, keys, judge_users, check_facets,
 use Rattle.interfaces.specs.declared.Met.{Met}
 use Rattle.interfaces.specs.Runs.{judge, named, Judged, judged_start, judged_one, judged_two, judged_stop, judged_told, judged_pairs}
 
--- What the walk over the keys leaves: its verdict, and where it is fine the facets of one cell in `x` and the pairs of cells that meet in `d`.
-pub record Met_all (fs : List Facet) (x d : List ℕ) (m : Met) : Type 0 where
-  pub told : heard m.verdict tt ≡ check_facets fs
-  pub listed : m.verdict ≡ Fine → take m.listed x ≡ exterior fs
-  pub paired : m.verdict ≡ Fine → take (2 * m.pairs) d ≡ ends_of (interfaces fs)
-  pub few : m.verdict ≡ Fine → m.listed ≤ length x
-  pub half : m.verdict ≡ Fine → 2 * m.pairs ≤ length d
+-- What the walk over the keys leaves: its refusal, or the facets of one cell in `x` and the pairs of cells that meet in `d`.
+pub record Met_all (fs : List Facet) (x d : List ℕ) (m : Outcome Met) : Type 0 where
+  pub told : verdict_of m ≡ check_facets fs
+  pub listed : (n : Met) → m ≡ Ok n → take n.listed x ≡ exterior fs
+  pub paired : (n : Met) → m ≡ Ok n → take (2 * n.pairs) d ≡ ends_of (interfaces fs)
+  pub few : (n : Met) → m ≡ Ok n → n.listed ≤ length x
+  pub half : (n : Met) → m ≡ Ok n → 2 * n.pairs ≤ length d
 
 module _ (fs : List Facet) (ks : List (List ℕ)) where
   -- Before place p: a facets are listed, b pairs meet.
@@ -36,23 +34,27 @@ module _ (fs : List Facet) (ks : List (List ℕ)) where
     pub few : a ≤ p
     pub room : length (order ks) ≤ length x
 
-  -- The walk goes on, or it is refused and at its end.
-  unfoldable pub Standing : List ℕ → List ℕ → Verdict → ℕ → ℕ → ℕ → Type 0
-  Standing x d Fine p a b = Part x d p a b
-  Standing x d (Refused r) p a b = (p ≡ length (order ks)) × (walk (judge (judge_users fs) (cell_of fs) ks) tt (order ks) ≡ refused r)
+  -- The walk goes on, or it is refused.
+  unfoldable pub Standing : List ℕ → List ℕ → Outcome Met → Type 0
+  Standing x d (Ok n) = Part x d n.at n.listed n.pairs
+  Standing x d (Err r) = walk (judge (judge_users fs) (cell_of fs) ks) tt (order ks) ≡ Err r
 
-  pub standing_start : (x d : List ℕ) → length (order ks) ≤ length x → length (order ks) ≤ length d → Standing x d Fine 0 0 0
-  unfolding Standing lone
-  standing_start x d h l = record { judged = judged_start (judge_users fs) (cell_of fs) ks d l; listed = refl; few = omega arith; room = h }
+  pub part_start : (x d : List ℕ) → length (order ks) ≤ length x → length (order ks) ≤ length d → Part x d 0 0 0
+  unfolding lone
+  part_start x d h l = record { judged = judged_start (judge_users fs) (cell_of fs) ks d l; listed = refl; few = omega arith; room = h }
 
-  pub standing_part : (x d : List ℕ) (v : Verdict) (p a b : ℕ) → p < length (order ks) → Standing x d v p a b → Part x d p a b
+  -- a turn that goes on is a part
+  pub standing_part : (x d : List ℕ) (m : Outcome Met) (n : Met) → m ≡ Ok n → Standing x d m → Part x d n.at n.listed n.pairs
   unfolding Standing
-  standing_part x d Fine p a b h s = s
-  standing_part x d (Refused r) p a b h s = absurd (omega (arith, s.0))
+  standing_part x d m n e s = subst (Standing x d) e s
+
+  pub standing_refused : (x d : List ℕ) (m : Outcome Met) (r : Refusal) → m ≡ Err r → Standing x d m → walk (judge (judge_users fs) (cell_of fs) ks) tt (order ks) ≡ Err r
+  unfolding Standing
+  standing_refused x d m r e s = subst (Standing x d) e s
 
   module _ (x d : List ℕ) (p a b : ℕ) (h : p < length (order ks)) (w : Part x d p a b) where
-    pub part_one : Sized ks p 1 → Standing (set x a (at ks p)) d Fine (p + 1) (a + 1) b
-    unfolding Standing judge_users
+    pub part_one : Sized ks p 1 → Part (set x a (at ks p)) d (p + 1) (a + 1) b
+    unfolding judge_users
     part_one s =
         let r : Run ks p (p + 1) = subst (Run ks p) (s.few (omega arith)) s.run in
         record {
@@ -64,9 +66,9 @@ module _ (fs : List Facet) (ks : List (List ℕ)) where
         }
 
     -- two that share a key, as they are judged
-    pub part_two : (v : Verdict) (d' : List ℕ) → Sized ks p 2 → heard v tt ≡ judge_users fs (at ks p ∷ at ks (p + 1) ∷ []) →
-        d' ≡ set (set d (2 * b) (cell_of fs (at ks p))) (2 * b + 1) (cell_of fs (at ks (p + 1))) → v ≡ Fine → Standing x d' Fine (p + 2) a (b + 1)
-    unfolding Standing heard
+    pub part_two : (v : Outcome Unit) (d' : List ℕ) → Sized ks p 2 → heard v tt ≡ judge_users fs (at ks p ∷ at ks (p + 1) ∷ []) →
+        d' ≡ set (set d (2 * b) (cell_of fs (at ks p))) (2 * b + 1) (cell_of fs (at ks (p + 1))) → v ≡ Ok tt → Part x d' (p + 2) a (b + 1)
+    unfolding heard
     part_two v d' s e q g =
         let r : Run ks p (p + 2) = subst (Run ks p) (s.few (omega arith)) s.run in
         record {
@@ -76,43 +78,45 @@ module _ (fs : List Facet) (ks : List (List ℕ)) where
           room = w.room;
         }
 
-    pub part_refused : (v : Verdict) (d' : List ℕ) (r : Refusal) → Sized ks p 2 → heard v tt ≡ judge_users fs (at ks p ∷ at ks (p + 1) ∷ []) → v ≡ Refused r → Standing x d' (Refused r) (length (order ks)) a b
+    pub part_refused : (v : Outcome Unit) (d' : List ℕ) (r : Refusal) → Sized ks p 2 → heard v tt ≡ judge_users fs (at ks p ∷ at ks (p + 1) ∷ []) → v ≡ Err r → Standing x d' (Err r)
     unfolding Standing heard
     part_refused v d' r s e g =
         let u : Run ks p (p + 2) = subst (Run ks p) (s.few (omega arith)) s.run in
-        (refl, judged_stop (judge_users fs) (cell_of fs) ks d p b w.judged r (at ks p ∷ at ks (p + 1) ∷ []) h (two_users ks p u) (sym e ∙ ap (λ v. heard v tt) g))
+        judged_stop (judge_users fs) (cell_of fs) ks d p b w.judged r (at ks p ∷ at ks (p + 1) ∷ []) h (two_users ks p u) (sym e ∙ ap (λ v. heard v tt) g)
 
     -- three or more
-    pub part_more : (d' : List ℕ) (m : ℕ) → Sized ks p m → 3 ≤ m → Standing x d' (Refused (refusal_of 19)) (length (order ks)) a b
+    pub part_more : (d' : List ℕ) (m : ℕ) → Sized ks p m → 3 ≤ m → Standing x d' (Err (refusal_of 19))
     unfolding Standing judge_users
-    part_more d' m s e = (refl, judged_stop (judge_users fs) (cell_of fs) ks d p b w.judged (refusal_of 19) _ h (more_users ks p s.e s.run (s.many e)) refl)
+    part_more d' m s e = judged_stop (judge_users fs) (cell_of fs) ks d p b w.judged (refusal_of 19) _ h (more_users ks p s.e s.run (s.many e)) refl
 
   -- the end of the walk
-  pub standing_end : (x d : List ℕ) (m : Met) → ks ≡ keys fs → length (order ks) ≤ m.at → Standing x d m.verdict m.at m.listed m.pairs → Met_all fs x d m
-  standing_end x d m q h s = record { told = told m.verdict s; listed = λ e. listed m.verdict s e; paired = λ e. paired m.verdict s e; few = λ e. few m.verdict s e; half = λ e. half m.verdict s e }
-    where
-      whole : walk (judge (judge_users fs) (cell_of fs) ks) tt (order ks) ≡ check_facets fs
-      whole = unfold check_facets in ap (λ ks. walk (λ _ i. judge_users fs (users ks i)) tt (order ks)) q
+  module _ (q : ks ≡ keys fs) where
+    whole : walk (judge (judge_users fs) (cell_of fs) ks) tt (order ks) ≡ check_facets fs
+    whole = unfold check_facets in ap (λ ks. walk (λ _ i. judge_users fs (users ks i)) tt (order ks)) q
 
-      none : lones_from ks m.at ≡ []
-      none = unfold keep in ap (keep (λ i. hit 1 (length (users ks i)))) (drop_of_length-le (order ks) h)
+    pub part_end : (x d : List ℕ) (m : Met) → length (order ks) ≤ m.at → Part x d m.at m.listed m.pairs → Met_all fs x d (Ok m)
+    part_end x d m h w = record {
+      told = told;
+      listed = λ n e. ap (λ n. take n.listed x) (sym (same_ok e)) ∙ sym (append-nil (take m.listed x)) ∙ ap (λ l. take m.listed x ++ l) (sym none) ∙ w.listed ∙ ap lone q;
+      paired = λ n e. ap (λ n. take (2 * n.pairs) d) (sym (same_ok e)) ∙ judged_pairs (judge_users fs) (cell_of fs) ks d m.at m.pairs w.judged h ∙ whole_pairs;
+      few = λ n e. omega (arith, ap (λ n. n.listed) (same_ok e), w.few, w.judged.upto, w.room);
+      half = λ n e. omega (arith, ap (λ n. n.pairs) (same_ok e), w.judged.half, w.judged.upto, w.judged.room);
+    }
+      where
+        told : verdict_of (Ok m) ≡ check_facets fs
+        told = unfold verdict_of in (judged_told (judge_users fs) (cell_of fs) ks d m.at m.pairs w.judged h ∙ whole)
 
-      told : (v : Verdict) → Standing x d v m.at m.listed m.pairs → heard v tt ≡ check_facets fs
-      told Fine w = unfold Standing heard in (judged_told (judge_users fs) (cell_of fs) ks d m.at m.pairs w.judged h ∙ whole)
-      told (Refused r) w = unfold Standing heard in (sym w.1 ∙ whole)
+        none : lones_from ks m.at ≡ []
+        none = unfold keep in ap (keep (λ i. hit 1 (length (users ks i)))) (drop_of_length-le (order ks) h)
 
-      listed : (v : Verdict) → Standing x d v m.at m.listed m.pairs → v ≡ Fine → take m.listed x ≡ exterior fs
-      listed Fine w e = unfold Standing in (sym (append-nil (take m.listed x)) ∙ ap (λ l. take m.listed x ++ l) (sym none) ∙ w.listed ∙ ap lone q)
-      listed (Refused r) w e = never_fine e
+        whole_pairs : named (judge_users fs) (cell_of fs) ks (pairs ks) ≡ ends_of (interfaces fs)
+        whole_pairs = ap (λ ks. named (judge_users fs) (cell_of fs) ks (pairs ks)) q
 
-      paired : (v : Verdict) → Standing x d v m.at m.listed m.pairs → v ≡ Fine → take (2 * m.pairs) d ≡ ends_of (interfaces fs)
-      paired Fine w e = unfold Standing in (judged_pairs (judge_users fs) (cell_of fs) ks d m.at m.pairs w.judged h ∙ ap (λ ks. named (judge_users fs) (cell_of fs) ks (pairs ks)) q)
-      paired (Refused r) w e = never_fine e
-
-      few : (v : Verdict) → Standing x d v m.at m.listed m.pairs → v ≡ Fine → m.listed ≤ length x
-      few Fine w e = unfold Standing in omega (arith, w.few, w.judged.upto, w.room)
-      few (Refused r) w e = never_fine e
-
-      half : (v : Verdict) → Standing x d v m.at m.listed m.pairs → v ≡ Fine → 2 * m.pairs ≤ length d
-      half Fine w e = unfold Standing in omega (arith, w.judged.half, w.judged.upto, w.judged.room)
-      half (Refused r) w e = never_fine e
+    pub refused_end : (x d : List ℕ) (r : Refusal) → walk (judge (judge_users fs) (cell_of fs) ks) tt (order ks) ≡ Err r → Met_all fs x d (Err r)
+    refused_end x d r w = record {
+      told = unfold verdict_of in (sym w ∙ whole);
+      listed = λ n e. never_ok e;
+      paired = λ n e. never_ok e;
+      few = λ n e. never_ok e;
+      half = λ n e. never_ok e;
+    }

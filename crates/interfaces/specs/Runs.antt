@@ -1,11 +1,11 @@
 -- A walk over the keys that judges each run and stores the pairs: what is left at place p of the order.
-use Rattle.std.specs.Prelude.{◌≡◌, refl, ℕ, zero, suc, ◌+◌, ◌*◌, ◌≤◌, ◌<◌, get_or, set}
+use Rattle.std.specs.Prelude.{◌≡◌, refl, ℕ, suc, ◌+◌, ◌*◌, ◌≤◌, ◌<◌, set, Ok, Err}
 use Rattle.std.proofs.Math.Path.{sym, ap}
-use Rattle.std.proofs.Common.{ap₂, ◌∙◌, subst, arith, add-one, drop_of_length-le, drop-cons, take-suc-set}
+use Rattle.std.proofs.Common.{◌∙◌, arith, add-one, drop_of_length-le, drop-cons, take-suc-set}
 use mathlib.Core.List.{List, [], ◌∷◌, ◌++◌, map, append_assoc, append-nil}
 use Rattle.std.proofs.Math.ListN.{length, take, drop, length-set}
 use Rattle.refusal.specs.declared.Refusal.{Refusal}
-use Rattle.refusal.specs.Outcome.{Outcome, ok, refused, walk}
+use Rattle.refusal.specs.Outcome.{Outcome, walk}
 use Rattle.refusal.specs.Laws.{walk_go, walk_stop, walk_end}
 use Rattle.sums.specs.Keys.{order, users, led, flat, pairs}
 use Rattle.sums.specs.SizeLaws.{Fresh, at, pairs_from}
@@ -42,7 +42,7 @@ module _ (J : List ℕ → Outcome (Unit {0})) (g : ℕ → ℕ) (ks : List (Lis
   judged_start d h = record { upto = omega arith; fresh = fresh_start ks; left = refl; paired = refl; half = omega arith; room = h }
 
   module _ (d : List ℕ) (p b : ℕ) (w : Judged d p b) where
-    pub judged_one : Run ks p (p + 1) → J (at ks p ∷ []) ≡ ok tt → Judged d (p + 1) b
+    pub judged_one : Run ks p (p + 1) → J (at ks p ∷ []) ≡ Ok tt → Judged d (p + 1) b
     judged_one r e = record {
       upto = r.high;
       fresh = fresh_next ks p (p + 1) w.fresh r;
@@ -52,7 +52,7 @@ module _ (J : List ℕ → Outcome (Unit {0})) (g : ℕ → ℕ) (ks : List (Lis
       room = w.room;
     }
 
-    pub judged_two : (d' : List ℕ) → Run ks p (p + 2) → J (at ks p ∷ at ks (p + 1) ∷ []) ≡ ok tt → d' ≡ set (set d (2 * b) (g (at ks p))) (2 * b + 1) (g (at ks (p + 1))) → Judged d' (p + 2) (b + 1)
+    pub judged_two : (d' : List ℕ) → Run ks p (p + 2) → J (at ks p ∷ at ks (p + 1) ∷ []) ≡ Ok tt → d' ≡ set (set d (2 * b) (g (at ks p))) (2 * b + 1) (g (at ks (p + 1))) → Judged d' (p + 2) (b + 1)
     unfolding ends_of
     judged_two d' r e q =
         let i = at ks p in
@@ -72,11 +72,11 @@ module _ (J : List ℕ → Outcome (Unit {0})) (g : ℕ → ℕ) (ks : List (Lis
         }
 
     -- a run that is refused
-    pub judged_stop : (r : Refusal) (l : List ℕ) → p < length (order ks) → users ks (at ks p) ≡ l → J l ≡ refused r → walk judge tt (order ks) ≡ refused r
+    pub judged_stop : (r : Refusal) (l : List ℕ) → p < length (order ks) → users ks (at ks p) ≡ l → J l ≡ Err r → walk judge tt (order ks) ≡ Err r
     judged_stop r l h u e = sym w.left ∙ ap (walk judge tt) (drop-cons (order ks) p 0 h) ∙ walk_stop judge tt (at ks p) (drop (suc p) (order ks)) r (ap J u ∙ e)
 
     -- the end
-    pub judged_told : length (order ks) ≤ p → ok tt ≡ walk judge tt (order ks)
+    pub judged_told : length (order ks) ≤ p → Ok tt ≡ walk judge tt (order ks)
     judged_told h = sym (walk_end judge tt) ∙ sym (ap (walk judge tt) (drop_of_length-le (order ks) h)) ∙ w.left
 
     pub judged_pairs : length (order ks) ≤ p → take (2 * b) d ≡ named (pairs ks)

@@ -9,31 +9,39 @@ ghost use Rattle.keys.specs.Sized.{Ordered};
 ghost use Rattle.bodies.specs.Fusing.{cell_of, keys, judge_users};
 ghost use Rattle.interfaces.specs.Facets.{facets_of};
 ghost use Rattle.interfaces.specs.Meeting.{Part, Met_all};
-ghost use Rattle.interfaces.specs.Steps.{stop_if, after_two, Turned};
+ghost use Rattle.interfaces.specs.Steps.{stop_if, Turned};
 
-use refusal::{Refusal, Verdict};
+use refusal::Refusal;
 
 // The walk over the keys: where it is in their order, and how many facets are listed and pairs of cells met so far.
 #[derive(Clone, Copy)]
 pub struct Met {
-    pub verdict: Verdict,
     pub at: usize,
     pub listed: usize,
     pub pairs: usize,
 }
 
 // A refusal where a test fails.
-pub fn stop_if(bad: bool, number: u64) -> Verdict
+#[tactic(auto, unfolding(crate::specs::Steps::stop_if))]
+pub fn stop_if(bad: bool, number: u64) -> Result<(), Refusal>
     ensures { result ≡ stop_if bad number }
 {
     if bad {
-        return Verdict::Refused(refusal::refuse(number));
+        return Err(refusal::refuse(number));
     }
-    Verdict::Fine
+    Ok(())
 }
 
 // Two facets that share a key: 18 where they are of one cell, or not each other back to front.
-fn judge_pair(v: &[u64], starts: &[u64], owners: &[u64], f: usize, a: usize, b: usize) -> Verdict
+#[tactic(auto, using(crate::specs::Steps::pair_rows, crate::specs::Steps::pair_judged))]
+fn judge_pair(
+    v: &[u64],
+    starts: &[u64],
+    owners: &[u64],
+    f: usize,
+    a: usize,
+    b: usize,
+) -> Result<(), Refusal>
     requires { Starts v.now starts.now f × (f ≤ length owners.now) × (a < f) × (b < f) }
     ensures { heard result tt ≡ judge_users (facets_of v.now starts.now owners.now f) (a ∷ b ∷ []) }
 {
@@ -46,6 +54,7 @@ fn judge_pair(v: &[u64], starts: &[u64], owners: &[u64], f: usize, a: usize, b: 
 }
 
 // Their cells become a pair.
+#[tactic(auto, using(crate::specs::Steps::pair_stored))]
 fn meet_two(
     v: &[u64],
     starts: &[u64],
@@ -55,7 +64,7 @@ fn meet_two(
     b: usize,
     ends: &mut [u64],
     y: usize,
-) -> Verdict
+) -> Result<(), Refusal>
     requires { Starts v.now starts.now f × (f ≤ length owners.now) × (a < f) × (b < f) × (2 * y + 1 < length ends.old) }
     ensures judged { heard result tt ≡ judge_users (facets_of v.now starts.now owners.now f) (a ∷ b ∷ []) }
     ensures stored { ends.new ≡ set (set ends.old (2 * y) (cell_of (facets_of v.now starts.now owners.now f) a)) (2 * y + 1) (cell_of (facets_of v.now starts.now owners.now f) b) }
@@ -63,27 +72,6 @@ fn meet_two(
     ends[2 * y] = owners[a];
     ends[2 * y + 1] = owners[b];
     judge_pair(v, starts, owners, f, a, b)
-}
-
-// A refusal ends the walk.
-fn after_two(verdict: Verdict, f: usize, p: usize, x: usize, y: usize) -> Met
-    requires { (p + 2 ≤ f) × (y ≤ p) }
-    ensures { result ≡ after_two verdict f p x y }
-{
-    match verdict {
-        Verdict::Fine => Met {
-            verdict: Verdict::Fine,
-            at: p + 2,
-            listed: x,
-            pairs: y + 1,
-        },
-        Verdict::Refused(r) => Met {
-            verdict: Verdict::Refused(r),
-            at: f,
-            listed: x,
-            pairs: y,
-        },
-    }
 }
 
 // One key: a facet of its own is listed, two that share it meet, more are 19.
@@ -97,7 +85,7 @@ fn meet_run(
     ext: &mut [u64],
     ends: &mut [u64],
     m: Met,
-) -> Met
+) -> Result<Met, Refusal>
     requires starts { Starts v.now starts.now f × (f ≤ length owners.now) × Starts k.now starts.now f × Ordered k.now starts.now f ord.now × (m.at < f) }
     requires part { Part (facets_of v.now starts.now owners.now f) (rows k.now starts.now f) ext.old ends.old m.at m.listed m.pairs }
     ensures { Turned (facets_of v.now starts.now owners.now f) (rows k.now starts.now f) ext.new ends.new m.at result }
@@ -108,25 +96,23 @@ fn meet_run(
     let size = keys::run_size(k, starts, f, ord, p);
     if size == 1 {
         ext[x] = ord[p];
-        return Met {
-            verdict: Verdict::Fine,
+        return Ok(Met {
             at: p + 1,
             listed: x + 1,
             pairs: y,
-        };
+        });
     }
     if size == 2 {
         let a = ord[p] as usize;
         let b = ord[p + 1] as usize;
-        let verdict = meet_two(v, starts, owners, f, a, b, ends, y);
-        return after_two(verdict, f, p, x, y);
+        meet_two(v, starts, owners, f, a, b, ends, y)?;
+        return Ok(Met {
+            at: p + 2,
+            listed: x,
+            pairs: y + 1,
+        });
     }
-    Met {
-        verdict: Verdict::Refused(refusal::refuse(19)),
-        at: f,
-        listed: x,
-        pairs: y,
-    }
+    Err(refusal::refuse(19))
 }
 
 // All keys in their order: the facets of one cell go to `ext`, the pairs of cells that meet to `ends`.
@@ -139,19 +125,19 @@ pub fn meet_facets(
     ord: &[u64],
     ext: &mut [u64],
     ends: &mut [u64],
-) -> Met
+) -> Result<Met, Refusal>
     requires starts { Starts v.now starts.now f × (f ≤ length owners.now) × Starts k.now starts.now f × Ordered k.now starts.now f ord.now }
     requires f_value { (rows k.now starts.now f ≡ keys (facets_of v.now starts.now owners.now f)) × (f ≤ length ext.old) × (f ≤ length ends.old) }
     ensures { Met_all (facets_of v.now starts.now owners.now f) ext.new ends.new result }
 {
     let mut m = Met {
-        verdict: Verdict::Fine,
         at: 0,
         listed: 0,
         pairs: 0,
     };
+    // The place jumps over the facets that share a key, so this is no counting loop.
     while m.at < f {
-        m = meet_run(v, starts, owners, f, k, ord, ext, ends, m);
+        m = meet_run(v, starts, owners, f, k, ord, ext, ends, m)?;
     }
-    m
+    Ok(m)
 }

@@ -1,4 +1,5 @@
 -- Wider operands give a wider result: where a lies inside a' and b inside b', the sum, difference and product of a and b lie inside those of a' and b', and so do square and reciprocal of a. Assumes nothing.
+use Rattle.std.specs.Prelude.{Some}
 use mathlib.Core.Path.{◌≡◌, refl, sym, ap, ◌∙◌, subst}
 use mathlib.Core.Logic.{◌⊎◌, inl, inr}
 use mathlib.Core.Bool.{Bool, true, false, not, ◌&&◌}
@@ -16,7 +17,6 @@ use Rattle.float.proofs.Sums.{add_mono, add_nan, leftmost, rightmost}
 use Rattle.float.proofs.Products.{Real, Spans, Under, Over, mul_turn, real_turn, product, mul_least, mul_greatest, nan_times, inf_times, inf_turns}
 use Rattle.float.proofs.Quotients.{over, over_number, over_falls}
 use Rattle.interval.specs.declared.Interval.{Interval}
-use Rattle.interval.specs.declared.Inverse.TheVariants.{Value}
 use Rattle.interval.specs.Ends.{zero, whole, outward, add_i, sub_i, mul_i, holds_zero, sqr_i, inverse_of}
 use Rattle.interval.specs.Box.{at, dot_i}
 use Rattle.interval.proofs.Laws.{Ordered, by_step, by_hull, square_ends, low_square, high_square, square_by, whole_ordered, outward_ordered, add_ordered, mul_ordered, sqr_ordered, opposite, minus_is, Four, four, spread_ordered, zero_beside, inverse_is, inverse_of_lem}
@@ -334,10 +334,10 @@ module _ {a a' : Interval} (I : Inside a a') where
 -- ---- a reciprocal: where the wider one is, so is the narrower, inside it
 pub record Narrower (a r' : Interval) : Type 0 where
   pub value : Interval
-  pub is : inverse_of a ≡ Value value
+  pub is : inverse_of a ≡ Some value
   pub inside : Inside value r'
 
-pub inverse_inside : {a a' r' : Interval} → Inside a a' → inverse_of a' ≡ Value r' → Narrower a r'
+pub inverse_inside : {a a' r' : Interval} → Inside a a' → inverse_of a' ≡ Some r' → Narrower a r'
 inverse_inside {a} {a'} {r'} I e =
     let v = inverse_is a' r' e in
     let l' = (positive_place a'.lo I.wide_low.held v.0).1 in

@@ -1,4 +1,5 @@
 -- The shadow law: where x lies in a and y in b, the rounded sum, difference or product of x and y, unless it is a NaN, lies in the stepped interval of the same step, infinities included; so does a square, a reciprocal and a dot. Assumes nothing.
+use Rattle.std.specs.Prelude.{Some}
 use mathlib.Core.Path.{◌≡◌, refl, sym, subst}
 use mathlib.Core.Logic.{inl, inr}
 use mathlib.Core.Bool.{Bool, true, false, not}
@@ -17,7 +18,6 @@ use Rattle.float.proofs.Products.{Real, Spans, product, mul_least, mul_greatest,
 use Rattle.float.proofs.Quotients.{over, over_number, over_falls}
 use Rattle.interval.specs.declared.Interval.{Interval}
 use Rattle.interval.specs.declared.Sign.TheVariants.{Positive}
-use Rattle.interval.specs.declared.Inverse.TheVariants.{Value}
 use Rattle.interval.specs.Ends.{zero, whole, point_i, outward, add_i, sub_i, mul_i, contains, holds_zero, sqr_i, sign_of, inverse_of}
 use Rattle.interval.specs.Box.{at, dot_i}
 use Rattle.interval.proofs.Laws.{by_step, by_hull, square_ends, low_square, high_square, square_by, opposite, minus_is, four, zero_beside, inverse_is, above_tolerance}
@@ -156,7 +156,7 @@ module _ {a : Interval} {x : Float} (i : In a x) where
           }
 
 -- ---- reciprocals
-pub inverse_in : {a r : Interval} {x : Float} → inverse_of a ≡ Value r → In a x → In r (over x)
+pub inverse_in : {a r : Interval} {x : Float} → inverse_of a ≡ Some r → In a x → In r (over x)
 inverse_in {a} {r} {x} e i =
     let v = inverse_is a r e in
     let l = (positive_place a.lo i.low.held v.0).1 in

@@ -1,4 +1,5 @@
 -- Where the operands hold the exact numbers, a stepped sum, difference, product, square or reciprocal with finite ends holds the exact one; and where the ends of a sum or a product are finite, so are those of its operands. Assumes nothing.
+use Rattle.std.specs.Prelude.{Some}
 use mathlib.Core.Path.{◌≡◌, refl, sym, ap, ◌∙◌, subst}
 use mathlib.Core.Logic.{◌⊎◌, inl, inr}
 use mathlib.Core.Bool.{Bool, true, false, not, cond}
@@ -19,7 +20,6 @@ use Rattle.float.proofs.Products.{product, mul_left, finite_between, finite_mul,
 use Rattle.float.proofs.Quotients.{over, inverted, over_number, over_falls, over_up, over_down}
 use Rattle.interval.specs.declared.Interval.{Interval}
 use Rattle.interval.specs.declared.Sign.TheVariants.{Positive, Negative}
-use Rattle.interval.specs.declared.Inverse.TheVariants.{Value}
 use Rattle.interval.specs.Ends.{zero, point_i, outward, add_i, sub_i, hull_of, mul_i, holds_zero, sqr_i, sign_of, inverse_of}
 use Rattle.interval.specs.Exact.{Holds, Bounded, Finite}
 use Rattle.interval.proofs.Laws.{Ordered, positive_low, negative_high, by_step, by_hull, by_square, square_ends, opposite, opposite_ordered, minus_is, Four, four, zero_beside, inverse_is}
@@ -386,7 +386,7 @@ sqr_holds a p n c A F H =
         go ep en lp ln hp hn (inr z) l h u v = omega (arith, squares_rise hn hp n p z (omega arith), v)
 
 -- ---- reciprocals: of k / c units, c / k times 2 ^ 2148 units
-pub inverse_holds : (a r : Interval) (p n c : ℕ) → Finite a → Bounded r → inverse_of a ≡ Value r → Holds a p n c → Holds r (c * (2 ^ 1074 * 2 ^ 1074)) 0 (p - n)
+pub inverse_holds : (a r : Interval) (p n c : ℕ) → Finite a → Bounded r → inverse_of a ≡ Some r → Holds a p n c → Holds r (c * (2 ^ 1074 * 2 ^ 1074)) 0 (p - n)
 inverse_holds a r p n c A F e H =
     let v = inverse_is a r e in
     let L = numbered a.lo A.lo_fits A.bounded.lo_finite in

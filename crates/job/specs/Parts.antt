@@ -1,12 +1,12 @@
 -- A run of records and a solid are sound and complete: what is read is what the bytes are, and bytes that are it are read.
-use Rattle.std.specs.Prelude.{◌≡◌, Bool, false, not, ℕ, zero, suc, ◌+◌, ◌*◌, take, eqb, leb}
+use Rattle.std.specs.Prelude.{◌≡◌, Bool, false, not, ℕ, zero, suc, ◌+◌, ◌*◌, take, eqb, leb, Ok}
 use Rattle.std.proofs.Math.Path.{refl, sym, ap, subst}
 use Rattle.std.proofs.Common.{◌∙◌, suc-mul, zero-mul, length-append, drop-drop, drop_at, take_at, le-leb, eq-eqb}
 use Rattle.std.proofs.Math.Bool.{true}
 use mathlib.Core.List.{List, [], ◌∷◌, ◌++◌, map}
 use native.Mathlib.Omega.{arith}
 use Rattle.std.proofs.Math.ListN.{length, drop, length-map}
-use Rattle.refusal.specs.Outcome.{ok, unless}
+use Rattle.refusal.specs.Outcome.{unless}
 use Rattle.job.specs.declared.Span.{Span}
 use Rattle.job.specs.Records.{standing, one_more, run_of, one_face, faces_after, total, faces_of, span_end, span_faces, span_points, span_of, bodies, face_bodies}
 use Rattle.job.specs.Bytes.{SolidBodies, records_to, faces_to, solid_to, Sized, none, more, AllSized, SolidSized}
@@ -53,11 +53,11 @@ all_sized zero s = none
 all_sized (suc n) s = more (sized_sound 4 2 (run_of 4 2 (drop 1 s)) (drop 1 s) refl) (all_sized n (drop (1 + 3 * run_of 4 2 (drop 1 s)) s))
 
 -- a test that let an answer through
-pub passed : {A : Type 0} (b : Bool) (x y : A) → unless (not b) 1 (ok x) ≡ ok y → b ≡ true
+pub passed : {A : Type 0} (b : Bool) (x y : A) → unless (not b) 1 (Ok x) ≡ Ok y → b ≡ true
 passed true x y e = refl
 passed false x y e = cc
 
-pub the_answer : {A : Type 0} (b : Bool) (x y : A) → unless (not b) 1 (ok x) ≡ ok y → x ≡ y
+pub the_answer : {A : Type 0} (b : Bool) (x y : A) → unless (not b) 1 (Ok x) ≡ Ok y → x ≡ y
 the_answer true x y e = cc
 the_answer false x y e = cc
 
@@ -102,7 +102,7 @@ module _ (l : List ℕ) (at : ℕ) where
         sized = record { points = sized_sound 2 24 points (drop at l) refl; faces = all_sized (length counts) (drop middle l) };
       }
 
-  pub solid_sound : (a : Span) → span_of l at ≡ ok a → SolidAt l at a
+  pub solid_sound : (a : Span) → span_of l at ≡ Ok a → SolidAt l at a
   unfolding span_of span_points span_faces span_end faces_of
   solid_sound a e =
       subst (λ x. SolidAt l at x) (the_answer (standing 5 0 (drop last l)) span a e)
@@ -237,7 +237,7 @@ module _ (l : List ℕ) (at : ℕ) (w : SolidBodies) (s : List ℕ) (z : SolidSi
       ∙ ap (drop k) at_faces
       ∙ faces_passed (5 ∷ s) z.faces
 
-  pub solid_complete : span_of l at ≡ ok (places_of at w)
+  pub solid_complete : span_of l at ≡ Ok (places_of at w)
   unfolding span_of span_points span_faces span_end faces_of places_of
   solid_complete =
       let t : standing 5 0 (5 ∷ s) ≡ true = stands_made 5 0 [] s refl in

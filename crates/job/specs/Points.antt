@@ -1,10 +1,9 @@
 -- The points of a solid and of a facet, one at a time, and where a solid's parts stand.
-use Rattle.std.specs.Prelude.{◌≡◌, List, ◌∷◌, map, length, take, drop, get_or}
+use Rattle.std.specs.Prelude.{◌≡◌, List, ◌∷◌, map, length, take, drop, get_or, Ok}
 use Rattle.std.proofs.Math.Path.{refl, ap}
 use Rattle.std.proofs.Common.{subst, ◌∙◌, arith, not-suc-le-zero, le_of_suc-le-suc, drop-drop, drop-cons}
 use Prim.Native.Nat.{ℕ, zero, suc, ◌+◌, ◌*◌, ◌≤◌, ◌<◌}
 use Rattle.std.proofs.Math.ListN.{length-map}
-use Rattle.refusal.specs.Outcome.{ok}
 use Rattle.space.specs.declared.Point3.{Point3}
 use Rattle.job.specs.declared.Span.{Span}
 use Rattle.job.specs.Records.{standing, run_of, faces_of, span_end, span_faces, span_points, span_of, bodies, face_bodies}
@@ -77,7 +76,7 @@ pub record Placed (l : List ℕ) (at : ℕ) (a : Span) : Type 0 where
   pub end : a.end ≡ a.middle + a.faces + 3 * a.corners + 1
   pub within : a.end ≤ length l
 
-pub span_placed : (l : List ℕ) (at : ℕ) (a : Span) → span_of l at ≡ ok a → Placed l at a
+pub span_placed : (l : List ℕ) (at : ℕ) (a : Span) → span_of l at ≡ Ok a → Placed l at a
 unfolding span_of span_points span_faces span_end faces_of
 span_placed l at a e =
     let n = run_of 2 24 (drop at l) in

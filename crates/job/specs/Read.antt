@@ -1,8 +1,8 @@
 -- Where the parts of a job stand, and the job that is read so. Definitions only.
-use Rattle.std.specs.Prelude.{ℕ, ◌+◌, ◌*◌, Bool, not, cond, ◌&&◌, List, map, length, drop, get_or, eqb, leb}
+use Rattle.std.specs.Prelude.{ℕ, ◌+◌, ◌*◌, Bool, not, cond, ◌&&◌, List, map, length, drop, get_or, eqb, leb, Ok}
 use Rattle.std.specs.Float.{binary64}
 use Rattle.std.specs.Float.Ieee.{of_bits}
-use Rattle.refusal.specs.Outcome.{Outcome, ok, refused, refuse, then, unless}
+use Rattle.refusal.specs.Outcome.{Outcome, refuse, then, unless}
 use Rattle.space.specs.declared.Point3.{Point3}
 use Rattle.space.specs.declared.Precision.{Precision}
 use Rattle.space.specs.declared.Plane.{Plane}
@@ -10,30 +10,14 @@ use Rattle.space.specs.Shapes.{Solid}
 use Rattle.words.specs.Little.{float_at}
 use Rattle.job.specs.declared.Operation.{Operation}
 use Rattle.job.specs.declared.Operation.TheVariants.{Intersection, Difference, Union}
-use Rattle.job.specs.declared.Operated.{Operated}
-use Rattle.job.specs.declared.Operated.TheVariants as O
 use Rattle.job.specs.declared.Span.{Span}
 use Rattle.job.specs.declared.Layout.{Layout}
-use Rattle.job.specs.declared.Laid.{Laid}
-use Rattle.job.specs.declared.Laid.TheVariants as L
 use Rattle.job.specs.declared.CellLayout.{CellLayout}
-use Rattle.job.specs.declared.CellLaid.{CellLaid}
-use Rattle.job.specs.declared.CellLaid.TheVariants as C
 use Rattle.job.specs.declared.FacetLayout.{FacetLayout}
-use Rattle.job.specs.declared.FacetLaid.{FacetLaid}
-use Rattle.job.specs.declared.FacetLaid.TheVariants as F
 use Rattle.job.specs.Records.{standing, run_of, span_of, bodies, face_bodies}
 use Rattle.job.specs.Bytes.{SolidBodies, point_of, solid_of, Job, Single, Facet}
 
 -- what the answers say
-unfoldable pub operated : Operated → Outcome Operation
-operated (O.Made o) = ok o
-operated (O.Refused r) = refused r
-
-unfoldable pub laid : Laid → Outcome Layout
-laid (L.Made y) = ok y
-laid (L.Refused r) = refused r
-
 -- "job over 32,768 bytes", and "one 1"
 unfoldable pub headed : List ℕ → Bool
 headed l = leb (length l) 32768 && standing 1 16 l
@@ -43,7 +27,7 @@ precision_at l at = record { linear = float_at l at; local = float_at l (at + 8)
 
 -- "operation (1: intersection 1, difference 2, union 3)"; "operation of unknown kind"
 unfoldable pub operation_of : ℕ → Outcome Operation
-operation_of b = cond (eqb b 1) (ok Intersection) (cond (eqb b 2) (ok Difference) (cond (eqb b 3) (ok Union) (refuse 1)))
+operation_of b = cond (eqb b 1) (Ok Intersection) (cond (eqb b 2) (Ok Difference) (cond (eqb b 3) (Ok Union) (refuse 1)))
 
 -- "one 6; end"
 unfoldable pub closing : List ℕ → ℕ → Bool
@@ -56,7 +40,7 @@ unfoldable pub layout_as : List ℕ → Span → Span → Operation → Layout
 layout_as l a b o = record { precision = precision_at l 1; first = a; second = b; operation = o }
 
 abbrev pub layout_with : List ℕ → Span → Span → Operation → Outcome Layout
-layout_with l a b o = ok (layout_as l a b o)
+layout_with l a b o = Ok (layout_as l a b o)
 
 unfoldable pub layout_on : List ℕ → Span → Span → Outcome Layout
 layout_on l a b = then (operation_at l b.end) (layout_with l a b)
@@ -70,21 +54,13 @@ layout_of l = unless (not (headed l)) 1 (then (span_of l 17) (layout_after l))
 
 -- ---- one solid alone: "records 1, points, faces, 5"
 
-unfoldable pub cell_laid : CellLaid → Outcome CellLayout
-cell_laid (C.Made y) = ok y
-cell_laid (C.Refused r) = refused r
-
 unfoldable pub cell_end : List ℕ → Span → Outcome CellLayout
-cell_end l a = unless (not (eqb (length l) a.end)) 1 (ok (record { precision = precision_at l 1; solid = a }))
+cell_end l a = unless (not (eqb (length l) a.end)) 1 (Ok (record { precision = precision_at l 1; solid = a }))
 
 unfoldable pub cell_layout : List ℕ → Outcome CellLayout
 cell_layout l = unless (not (headed l)) 1 (then (span_of l 17) (cell_end l))
 
 -- ---- one facet: tolerances, its plane (kind 9, 12 f64), its corners as points
-
-unfoldable pub facet_laid : FacetLaid → Outcome FacetLayout
-facet_laid (F.Made y) = ok y
-facet_laid (F.Refused r) = refused r
 
 unfoldable pub spot_at : List ℕ → ℕ → Point3
 spot_at l at = record { x = float_at l at; y = float_at l (at + 8); z = float_at l (at + 16) }
@@ -93,7 +69,7 @@ unfoldable pub plane_at : List ℕ → ℕ → Plane
 plane_at l at = record { frame = record { origin = spot_at l at; x = spot_at l (at + 24); y = spot_at l (at + 48); z = spot_at l (at + 72) }; mark = of_bits binary64 0 }
 
 unfoldable pub facet_end : List ℕ → ℕ → Outcome FacetLayout
-facet_end l n = unless (not (eqb (length l) (114 + 25 * n))) 1 (ok (record { precision = precision_at l 1; plane = plane_at l 18; start = 114; points = n }))
+facet_end l n = unless (not (eqb (length l) (114 + 25 * n))) 1 (Ok (record { precision = precision_at l 1; plane = plane_at l 18; start = 114; points = n }))
 
 unfoldable pub facet_headed : List ℕ → Bool
 facet_headed l = headed l && standing 9 96 (drop 17 l)
@@ -121,16 +97,16 @@ job_at l y = record { precision = y.precision; first = solid_at l y.first; secon
 
 -- the job that bytes are, or 1
 unfoldable pub read_job : List ℕ → Outcome Job
-read_job l = then (layout_of l) (λ y. ok (job_at l y))
+read_job l = then (layout_of l) (λ y. Ok (job_at l y))
 
 unfoldable pub cell_at : List ℕ → CellLayout → Single
 cell_at l y = record { precision = y.precision; solid = solid_at l y.solid }
 
 unfoldable pub read_cell : List ℕ → Outcome Single
-read_cell l = then (cell_layout l) (λ y. ok (cell_at l y))
+read_cell l = then (cell_layout l) (λ y. Ok (cell_at l y))
 
 unfoldable pub facet_at : List ℕ → FacetLayout → Facet
 facet_at l y = record { precision = y.precision; plane = y.plane; points = map point_of (bodies 24 y.points (drop y.start l)) }
 
 unfoldable pub read_facet : List ℕ → Outcome Facet
-read_facet l = then (facet_layout l) (λ y. ok (facet_at l y))
+read_facet l = then (facet_layout l) (λ y. Ok (facet_at l y))

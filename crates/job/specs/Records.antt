@@ -1,10 +1,8 @@
 -- Records and runs of records (01, "Job file": "One byte of kind, then a fixed body"). Definitions only.
-use Rattle.std.specs.Prelude.{ℕ, zero, suc, ◌+◌, ◌*◌, Bool, true, false, not, ◌&&◌, List, [], ◌∷◌, length, take, drop, eqb, leb}
-use Rattle.refusal.specs.Outcome.{Outcome, ok, refused, unless}
+use Rattle.std.specs.Prelude.{ℕ, zero, suc, ◌+◌, ◌*◌, Bool, true, false, not, ◌&&◌, List, [], ◌∷◌, length, take, drop, eqb, leb, Ok}
+use Rattle.refusal.specs.Outcome.{Outcome, unless}
 use Rattle.job.specs.declared.Faces.{Faces}
 use Rattle.job.specs.declared.Span.{Span}
-use Rattle.job.specs.declared.Spanned.{Spanned}
-use Rattle.job.specs.declared.Spanned.TheVariants as S
 
 -- whether a whole record of kind k with a body of n bytes stands at the front
 unfoldable pub standing : ℕ → ℕ → List ℕ → Bool
@@ -41,15 +39,11 @@ total (c ∷ f) = c + total f
 unfoldable pub faces_of : List ℕ → Faces
 faces_of s = record { faces = length (faces_after 0 s); corners = total (faces_after 0 s) }
 
-unfoldable pub spanned : Spanned → Outcome Span
-spanned (S.Made a) = ok a
-spanned (S.Refused r) = refused r
-
 -- "points, then faces each with its corners, then 5", from a place on
 unfoldable pub span_end : List ℕ → ℕ → ℕ → ℕ → Faces → ℕ → Outcome Span
 span_end l at n m f e =
     unless (not (standing 5 0 (drop e l))) 1
-    (ok (record { start = at; points = n; middle = m; faces = f.faces; corners = f.corners; end = e + 1 }))
+    (Ok (record { start = at; points = n; middle = m; faces = f.faces; corners = f.corners; end = e + 1 }))
 
 unfoldable pub span_faces : List ℕ → ℕ → ℕ → ℕ → Faces → Outcome Span
 span_faces l at n m f = span_end l at n m f (m + f.faces + 3 * f.corners)

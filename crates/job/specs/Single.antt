@@ -1,8 +1,8 @@
 -- One solid alone, and one facet: sound and complete, by the parts of a job.
-use Rattle.std.specs.Prelude.{◌≡◌, refl, true, not, List, [], ◌∷◌, ◌++◌, ℕ, ◌+◌, ◌*◌, ◌≤◌, length, take, drop, eqb}
+use Rattle.std.specs.Prelude.{◌≡◌, refl, true, not, List, [], ◌∷◌, ◌++◌, ℕ, ◌+◌, ◌*◌, ◌≤◌, length, take, drop, eqb, Ok}
 use Rattle.std.proofs.Common.{sym, ap, subst, ◌∙◌, arith, length-drop, length-append, drop_of_length-le, drop-drop, drop_at, take_at, eq-eqb, eqb-true}
 use Rattle.std.proofs.lemmas.Bool.{not-false}
-use Rattle.refusal.specs.Outcome.{ok, then}
+use Rattle.refusal.specs.Outcome.{then}
 use Rattle.refusal.specs.Laws.{same_ok, then_ok, unless_ok}
 use Rattle.refusal.specs.Tests.{and_true}
 use Rattle.job.specs.declared.Span.{Span}
@@ -20,12 +20,12 @@ nothing_left : (l : List ℕ) (at : ℕ) → length l ≡ at → drop at l ≡ [
 nothing_left l at e = let h : length l ≤ at = omega arith in drop_of_length-le l h
 
 -- a solid that was read ends within the bytes, so what is left is nothing only at their end
-all_read : (l : List ℕ) (at : ℕ) (a : Span) → span_of l at ≡ ok a → drop a.end l ≡ [] → length l ≡ a.end
+all_read : (l : List ℕ) (at : ℕ) (a : Span) → span_of l at ≡ Ok a → drop a.end l ≡ [] → length l ≡ a.end
 all_read l at a p e = omega (arith, length-drop a.end l, ap length e, (span_placed l at a p).within)
 
 -- ---- one solid alone
 
-parts_are : (l : List ℕ) (a : Span) → headed l ≡ true → span_of l 17 ≡ ok a → length l ≡ a.end → IsCell l (cell_at l (record { precision = precision_at l 1; solid = a }))
+parts_are : (l : List ℕ) (a : Span) → headed l ≡ true → span_of l 17 ≡ Ok a → length l ≡ a.end → IsCell l (cell_at l (record { precision = precision_at l 1; solid = a }))
 unfolding cell_at solid_at
 parts_are l a h p n =
     let s = head_stands l h in
@@ -40,7 +40,7 @@ parts_are l a h p n =
       meaning = rw (precision_same l) refl;
     }
 
-cell_layout_sound : (l : List ℕ) (y : CellLayout) → cell_layout l ≡ ok y → IsCell l (cell_at l y)
+cell_layout_sound : (l : List ℕ) (y : CellLayout) → cell_layout l ≡ Ok y → IsCell l (cell_at l y)
 unfolding cell_layout cell_end
 cell_layout_sound l y e =
     let u = unless_ok (not (headed l)) 1 (then (span_of l 17) (cell_end l)) y e in
@@ -48,29 +48,29 @@ cell_layout_sound l y e =
     let f = then_ok (span_of l 17) (cell_end l) y u.1 in
     let a = f.0 in
     let x : CellLayout = record { precision = precision_at l 1; solid = a } in
-    let v = unless_ok (not (eqb (length l) a.end)) 1 (ok x) y f.2 in
+    let v = unless_ok (not (eqb (length l) a.end)) 1 (Ok x) y f.2 in
     let n : length l ≡ a.end = eqb-true (length l) a.end (not-false (eqb (length l) a.end) v.0) in
     subst (λ v. IsCell l (cell_at l v)) (same_ok v.1) (parts_are l a h f.1 n)
 
-pub cell_sound : (l : List ℕ) (j : Single) → read_cell l ≡ ok j → IsCell l j
+pub cell_sound : (l : List ℕ) (j : Single) → read_cell l ≡ Ok j → IsCell l j
 unfolding read_cell
 cell_sound l j e =
-    let w = then_ok (cell_layout l) (λ y. ok (cell_at l y)) j e in
+    let w = then_ok (cell_layout l) (λ y. Ok (cell_at l y)) j e in
     subst (λ v. IsCell l v) (same_ok w.2) (cell_layout_sound l w.0 w.1)
 
-pub cell_complete : (l : List ℕ) (j : Single) → IsCell l j → read_cell l ≡ ok j
+pub cell_complete : (l : List ℕ) (j : Single) → IsCell l j → read_cell l ≡ Ok j
 unfolding read_cell cell_layout cell_end cell_at solid_at places_of
 cell_complete l j i =
     let w = i.bodies in
     let here : drop 17 l ≡ solid_to w [] = head_rest l i.tolerances (solid_to w []) i.headed i.bytes in
     let a = places_of 17 w in
     let h : headed l ≡ true = head_made l i.tolerances (solid_to w []) i.headed i.bytes i.short in
-    let p : span_of l 17 ≡ ok a = solid_complete l 17 w [] i.sized here in
+    let p : span_of l 17 ≡ Ok a = solid_complete l 17 w [] i.sized here in
     let n : length l ≡ a.end = all_read l 17 a p (solid_rest l 17 w [] i.sized here) in
     let q : eqb (length l) a.end ≡ true = eq-eqb (length l) a.end n in
     let k : bodies_at l a ≡ w = solid_kept l 17 w [] i.sized here in
     let t : precision_at l 1 ≡ precision_of i.tolerances = sym (precision_same l) ∙ ap precision_of (head_body l i.tolerances (solid_to w []) i.headed i.bytes) in
-    rw (h, p, q, t, k) (ap ok i.meaning)
+    rw (h, p, q, t, k) (ap Ok i.meaning)
 
 -- ---- one facet
 
@@ -117,23 +117,23 @@ facet_parts l h n =
       meaning = rw (precision_same l, plane_same l) refl;
     }
 
-facet_layout_sound : (l : List ℕ) (y : FacetLayout) → facet_layout l ≡ ok y → IsFacet l (facet_at l y)
+facet_layout_sound : (l : List ℕ) (y : FacetLayout) → facet_layout l ≡ Ok y → IsFacet l (facet_at l y)
 unfolding facet_layout facet_end
 facet_layout_sound l y e =
     let c = run_of 2 24 (drop 114 l) in
     let u = unless_ok (not (facet_headed l)) 1 (facet_end l c) y e in
     let h = not-false (facet_headed l) u.0 in
-    let w = unless_ok (not (eqb (length l) (114 + 25 * c))) 1 (ok (facet_on l c)) y u.1 in
+    let w = unless_ok (not (eqb (length l) (114 + 25 * c))) 1 (Ok (facet_on l c)) y u.1 in
     let n : length l ≡ 114 + 25 * c = eqb-true (length l) (114 + 25 * c) (not-false (eqb (length l) (114 + 25 * c)) w.0) in
     subst (λ v. IsFacet l (facet_at l v)) (same_ok w.1) (facet_parts l h n)
 
-pub facet_sound : (l : List ℕ) (j : Facet) → read_facet l ≡ ok j → IsFacet l j
+pub facet_sound : (l : List ℕ) (j : Facet) → read_facet l ≡ Ok j → IsFacet l j
 unfolding read_facet
 facet_sound l j e =
-    let w = then_ok (facet_layout l) (λ y. ok (facet_at l y)) j e in
+    let w = then_ok (facet_layout l) (λ y. Ok (facet_at l y)) j e in
     subst (λ v. IsFacet l v) (same_ok w.2) (facet_layout_sound l w.0 w.1)
 
-pub facet_complete : (l : List ℕ) (j : Facet) → IsFacet l j → read_facet l ≡ ok j
+pub facet_complete : (l : List ℕ) (j : Facet) → IsFacet l j → read_facet l ≡ Ok j
 unfolding read_facet facet_layout facet_end facet_headed facet_at run_after
 facet_complete l j i =
     let t = records_to 2 i.bodies [] in
@@ -149,4 +149,4 @@ facet_complete l j i =
     let p : precision_at l 1 ≡ precision_of i.tolerances = sym (precision_same l) ∙ ap precision_of (head_body l i.tolerances (9 ∷ i.plane ++ t) i.headed i.bytes) in
     let f : plane_at l 18 ≡ plane_of i.plane = sym (plane_same l) ∙ ap plane_of (ap (take 96) body ∙ take_at i.plane t 96 i.framed) in
     let k : bodies 24 (length i.bodies) (drop 114 l) ≡ i.bodies = ap (bodies 24 (length i.bodies)) rest ∙ records_kept 2 24 [] i.sized in
-    rw (h, s, c, q, p, f, k) (ap ok i.meaning)
+    rw (h, s, c, q, p, f, k) (ap Ok i.meaning)

@@ -1,9 +1,8 @@
 -- A job written and read again: the bytes that `job_bodies` gives a job are read as that job.
-use Rattle.std.specs.Prelude.{◌≡◌, refl, List, [], ◌∷◌, ◌++◌, map, ℕ, ◌+◌, ◌≤◌, ◌<◌, length, take, drop, T, Float}
+use Rattle.std.specs.Prelude.{◌≡◌, refl, List, [], ◌∷◌, ◌++◌, map, ℕ, ◌+◌, ◌≤◌, ◌<◌, length, take, drop, T, Float, Ok}
 use Rattle.std.proofs.Common.{sym, ap, ◌∙◌, arith, length-append, take_at, drop_at, take_all, drop-drop}
 use Rattle.std.specs.Float.{binary64}
 use Rattle.std.specs.Float.Ieee.{fits, of_bits}
-use Rattle.refusal.specs.Outcome.{ok}
 use Rattle.space.specs.declared.Point3.{Point3}
 use Rattle.space.specs.declared.Precision.{Precision}
 use Rattle.space.specs.Shapes.{Solid}
@@ -150,6 +149,6 @@ job_back j h =
     rw (precision_back j.precision h.linear h.local, solid_back j.first h.first, solid_back j.second h.second) refl
 
 -- a job that the bytes can hold is read as it was written
-pub written_read : (j : Job) → HeldJob j → length (job_bytes (job_bodies j)) ≤ 32768 → read_job (job_bytes (job_bodies j)) ≡ ok j
+pub written_read : (j : Job) → HeldJob j → length (job_bytes (job_bodies j)) ≤ 32768 → read_job (job_bytes (job_bodies j)) ≡ Ok j
 written_read j h k =
     complete (job_bytes (job_bodies j)) j (record { bodies = job_bodies j; sized = job_sized j; bytes = refl; short = k; meaning = job_back j h })

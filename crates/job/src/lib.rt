@@ -3,9 +3,8 @@
 // The reader of jobs: it says where the parts of a job stand in the bytes that were lent, and reads them there.
 // Each contract is one equation with a definition of `specs/`.
 ghost use Rattle.std.specs.Prelude.{◌≡◌, ◌+◌, ◌<◌, drop};
-ghost use Rattle.refusal.specs.Outcome.{then};
-ghost use Rattle.job.specs.Records.{standing, run_of, faces_of, spanned, span_end, span_of};
-ghost use Rattle.job.specs.Read.{operated, laid, headed, precision_at, operation_of, operation_at, layout_as, layout_with, layout_on, layout_after, layout_of, cell_laid, cell_end, cell_layout, facet_laid, spot_at, plane_at, facet_end, facet_headed, facet_layout, point_from, point_at};
+ghost use Rattle.job.specs.Records.{standing, run_of, faces_of, span_end, span_of};
+ghost use Rattle.job.specs.Read.{headed, precision_at, operation_of, operation_at, layout_as, layout_of, cell_end, cell_layout, spot_at, plane_at, facet_end, facet_headed, facet_layout, point_from, point_at};
 
 use refusal::Refusal;
 use space::{Frame, Plane, Point3, Precision};
@@ -15,12 +14,6 @@ pub enum Operation {
     Intersection,
     Difference,
     Union,
-}
-
-#[derive(Clone, Copy)]
-pub enum Operated {
-    Made(Operation),
-    Refused(Refusal),
 }
 
 // How many faces stand one after the other, and how many corners they have together.
@@ -42,12 +35,6 @@ pub struct Span {
 }
 
 #[derive(Clone, Copy)]
-pub enum Spanned {
-    Made(Span),
-    Refused(Refusal),
-}
-
-#[derive(Clone, Copy)]
 pub struct Layout {
     pub precision: Precision,
     pub first: Span,
@@ -55,23 +42,11 @@ pub struct Layout {
     pub operation: Operation,
 }
 
-#[derive(Clone, Copy)]
-pub enum Laid {
-    Made(Layout),
-    Refused(Refusal),
-}
-
 // A solid alone, with its tolerances.
 #[derive(Clone, Copy)]
 pub struct CellLayout {
     pub precision: Precision,
     pub solid: Span,
-}
-
-#[derive(Clone, Copy)]
-pub enum CellLaid {
-    Made(CellLayout),
-    Refused(Refusal),
 }
 
 // A facet for the mesh: its plane, and where its corners stand.
@@ -83,13 +58,8 @@ pub struct FacetLayout {
     pub points: usize,
 }
 
-#[derive(Clone, Copy)]
-pub enum FacetLaid {
-    Made(FacetLayout),
-    Refused(Refusal),
-}
-
 // Whether a whole record of a kind stands at a place.
+#[tactic(auto, using(crate::specs::Runs::stands_none, crate::specs::Runs::stands_cut, crate::specs::Runs::stands_here))]
 pub fn stands(job: &[u8], at: usize, kind: u8, body: usize) -> bool
     ensures { result ≡ standing kind body (drop at job.now) }
 {
@@ -103,11 +73,13 @@ pub fn stands(job: &[u8], at: usize, kind: u8, body: usize) -> bool
 }
 
 // How many records of a kind stand one after the other.
+#[tactic(auto, using(crate::specs::Runs::stands_in))]
 pub fn run(job: &[u8], start: usize, kind: u8, body: usize) -> usize
     ensures { result ≡ run_of kind body (drop start job.now) }
 {
     let mut at = start;
     let mut n = 0;
+    // How many records there are, only reading them says.
     while stands(job, at, kind, body) {
         at += 1 + body;
         n += 1;
@@ -121,6 +93,7 @@ fn faces_from(job: &[u8], start: usize) -> Faces
     let mut at = start;
     let mut faces = 0;
     let mut corners = 0;
+    // How many faces there are, only reading them says, and at jumps over the corners of each.
     while stands(job, at, 3, 0) {
         let n = run(job, at + 1, 4, 2);
         at += 1 + 3 * n;
@@ -130,13 +103,21 @@ fn faces_from(job: &[u8], start: usize) -> Faces
     Faces { faces, corners }
 }
 
-fn span_end(job: &[u8], start: usize, points: usize, middle: usize, f: Faces, end: usize) -> Spanned
-    ensures { spanned result ≡ span_end job.now start points middle f end }
+#[tactic(auto, using(crate::specs::Runs::stands_in), unfolding(crate::specs::Records::span_end))]
+fn span_end(
+    job: &[u8],
+    start: usize,
+    points: usize,
+    middle: usize,
+    f: Faces,
+    end: usize,
+) -> Result<Span, Refusal>
+    ensures { result ≡ span_end job.now start points middle f end }
 {
     if !stands(job, end, 5, 0) {
-        return Spanned::Refused(refusal::refuse(1));
+        return Err(refusal::refuse(1));
     }
-    Spanned::Made(Span {
+    Ok(Span {
         start,
         points,
         middle,
@@ -147,8 +128,9 @@ fn span_end(job: &[u8], start: usize, points: usize, middle: usize, f: Faces, en
 }
 
 // Where a solid stands that begins at a place.
-pub fn span_at(job: &[u8], start: usize) -> Spanned
-    ensures { spanned result ≡ span_of job.now start }
+#[tactic(auto, using(crate::proofs::Answers::span_all))]
+pub fn span_at(job: &[u8], start: usize) -> Result<Span, Refusal>
+    ensures { result ≡ span_of job.now start }
 {
     let points = run(job, start, 2, 24);
     let middle = start + 25 * points;
@@ -163,41 +145,41 @@ pub fn span_at(job: &[u8], start: usize) -> Spanned
     )
 }
 
-fn operation_of(b: u8) -> Operated
-    ensures { operated result ≡ operation_of b }
+#[tactic(auto, unfolding(crate::specs::Read::operation_of))]
+fn operation_of(b: u8) -> Result<Operation, Refusal>
+    ensures { result ≡ operation_of b }
 {
-    if b == 1 {
-        return Operated::Made(Operation::Intersection);
+    match b {
+        1 => Ok(Operation::Intersection),
+        2 => Ok(Operation::Difference),
+        3 => Ok(Operation::Union),
+        _ => Err(refusal::refuse(1)),
     }
-    if b == 2 {
-        return Operated::Made(Operation::Difference);
-    }
-    if b == 3 {
-        return Operated::Made(Operation::Union);
-    }
-    Operated::Refused(refusal::refuse(1))
 }
 
 // The operation, with which the job ends.
-fn operation_at(job: &[u8], at: usize) -> Operated
-    ensures { operated result ≡ operation_at job.now at }
+#[tactic(auto, using(crate::specs::Runs::stands_in), unfolding(crate::specs::Read::operation_at, crate::specs::Read::closing))]
+fn operation_at(job: &[u8], at: usize) -> Result<Operation, Refusal>
+    ensures { result ≡ operation_at job.now at }
 {
     if !stands(job, at, 6, 1) {
-        return Operated::Refused(refusal::refuse(1));
+        return Err(refusal::refuse(1));
     }
     if job.len() != at + 2 {
-        return Operated::Refused(refusal::refuse(1));
+        return Err(refusal::refuse(1));
     }
     operation_of(job[at + 1])
 }
 
 // Whether it is not too long and begins with its tolerances.
+#[tactic(auto, unfolding(crate::specs::Read::headed))]
 fn is_headed(job: &[u8]) -> bool
     ensures { result ≡ headed job.now }
 {
     (job.len() <= 32768) & stands(job, 0, 1, 16)
 }
 
+#[tactic(auto, unfolding(crate::specs::Read::precision_at))]
 fn precision_at(job: &[u8]) -> Precision
     ensures { result ≡ precision_at job.now 1 }
 {
@@ -207,6 +189,7 @@ fn precision_at(job: &[u8]) -> Precision
     }
 }
 
+#[tactic(auto, unfolding(crate::specs::Read::layout_as))]
 fn layout_as(job: &[u8], first: Span, second: Span, operation: Operation) -> Layout
     ensures { result ≡ layout_as job.now first second operation }
 {
@@ -218,74 +201,45 @@ fn layout_as(job: &[u8], first: Span, second: Span, operation: Operation) -> Lay
     }
 }
 
-fn laid_with(job: &[u8], first: Span, second: Span, o: Operated) -> Laid
-    ensures { laid result ≡ then (operated o) (layout_with job.now first second) }
-{
-    match o {
-        Operated::Made(operation) => Laid::Made(layout_as(job, first, second, operation)),
-        Operated::Refused(r) => Laid::Refused(r),
-    }
-}
-
-fn laid_on(job: &[u8], first: Span, s: Spanned) -> Laid
-    ensures { laid result ≡ then (spanned s) (layout_on job.now first) }
-{
-    match s {
-        Spanned::Made(second) => { laid_with(job, first, second, operation_at(job, second.end)) }
-        Spanned::Refused(r) => Laid::Refused(r),
-    }
-}
-
-fn laid_after(job: &[u8], s: Spanned) -> Laid
-    ensures { laid result ≡ then (spanned s) (layout_after job.now) }
-{
-    match s {
-        Spanned::Made(first) => laid_on(job, first, span_at(job, first.end)),
-        Spanned::Refused(r) => Laid::Refused(r),
-    }
-}
-
 // A job, read whole: where its parts stand, or 1.
-pub fn read_job(job: &[u8]) -> Laid
-    ensures { laid result ≡ layout_of job.now }
+#[tactic(auto, unfolding(crate::specs::Read::layout_of, crate::specs::Read::layout_after, crate::specs::Read::layout_on))]
+pub fn read_job(job: &[u8]) -> Result<Layout, Refusal>
+    ensures { result ≡ layout_of job.now }
 {
     if !is_headed(job) {
-        return Laid::Refused(refusal::refuse(1));
+        return Err(refusal::refuse(1));
     }
-    laid_after(job, span_at(job, 17))
+    let first = span_at(job, 17)?;
+    let second = span_at(job, first.end)?;
+    let operation = operation_at(job, second.end)?;
+    Ok(layout_as(job, first, second, operation))
 }
 
-fn cell_end(job: &[u8], solid: Span) -> CellLaid
-    ensures { cell_laid result ≡ cell_end job.now solid }
+#[tactic(auto, unfolding(crate::specs::Read::cell_end))]
+fn cell_end(job: &[u8], solid: Span) -> Result<CellLayout, Refusal>
+    ensures { result ≡ cell_end job.now solid }
 {
     if job.len() != solid.end {
-        return CellLaid::Refused(refusal::refuse(1));
+        return Err(refusal::refuse(1));
     }
-    CellLaid::Made(CellLayout {
+    Ok(CellLayout {
         precision: precision_at(job),
         solid,
     })
 }
 
-fn cell_after(job: &[u8], s: Spanned) -> CellLaid
-    ensures { cell_laid result ≡ then (spanned s) (cell_end job.now) }
-{
-    match s {
-        Spanned::Made(solid) => cell_end(job, solid),
-        Spanned::Refused(r) => CellLaid::Refused(r),
-    }
-}
-
 // One solid alone, read whole.
-pub fn read_cell(job: &[u8]) -> CellLaid
-    ensures { cell_laid result ≡ cell_layout job.now }
+#[tactic(auto, unfolding(crate::specs::Read::cell_layout))]
+pub fn read_cell(job: &[u8]) -> Result<CellLayout, Refusal>
+    ensures { result ≡ cell_layout job.now }
 {
     if !is_headed(job) {
-        return CellLaid::Refused(refusal::refuse(1));
+        return Err(refusal::refuse(1));
     }
-    cell_after(job, span_at(job, 17))
+    cell_end(job, span_at(job, 17)?)
 }
 
+#[tactic(auto, unfolding(crate::specs::Read::spot_at))]
 fn spot_at(job: &[u8], at: usize) -> Point3
     requires { at + 16 < 65536 }
     ensures { result ≡ spot_at job.now at }
@@ -297,6 +251,7 @@ fn spot_at(job: &[u8], at: usize) -> Point3
     }
 }
 
+#[tactic(auto, unfolding(crate::specs::Read::plane_at))]
 fn plane_at(job: &[u8]) -> Plane
     ensures { result ≡ plane_at job.now 18 }
 {
@@ -310,14 +265,15 @@ fn plane_at(job: &[u8]) -> Plane
     }
 }
 
-fn facet_end(job: &[u8], points: usize) -> FacetLaid
+#[tactic(auto, unfolding(crate::specs::Read::facet_end))]
+fn facet_end(job: &[u8], points: usize) -> Result<FacetLayout, Refusal>
     requires { points < 65536 }
-    ensures { facet_laid result ≡ facet_end job.now points }
+    ensures { result ≡ facet_end job.now points }
 {
     if job.len() != 114 + 25 * points {
-        return FacetLaid::Refused(refusal::refuse(1));
+        return Err(refusal::refuse(1));
     }
-    FacetLaid::Made(FacetLayout {
+    Ok(FacetLayout {
         precision: precision_at(job),
         plane: plane_at(job),
         start: 114,
@@ -325,6 +281,7 @@ fn facet_end(job: &[u8], points: usize) -> FacetLaid
     })
 }
 
+#[tactic(auto, unfolding(crate::specs::Read::facet_headed))]
 fn is_facet_headed(job: &[u8]) -> bool
     ensures { result ≡ facet_headed job.now }
 {
@@ -332,16 +289,18 @@ fn is_facet_headed(job: &[u8]) -> bool
 }
 
 // One facet for the mesh, read whole.
-pub fn read_facet(job: &[u8]) -> FacetLaid
-    ensures { facet_laid result ≡ facet_layout job.now }
+#[tactic(auto, unfolding(crate::specs::Read::facet_layout))]
+pub fn read_facet(job: &[u8]) -> Result<FacetLayout, Refusal>
+    ensures { result ≡ facet_layout job.now }
 {
     if !is_facet_headed(job) {
-        return FacetLaid::Refused(refusal::refuse(1));
+        return Err(refusal::refuse(1));
     }
     facet_end(job, run(job, 114, 2, 24))
 }
 
 // The point whose record is the front of some bytes.
+#[tactic(auto, unfolding(crate::specs::Read::point_from))]
 fn point_from(s: &[u8]) -> Point3
     ensures { result ≡ point_from s.now }
 {
@@ -353,6 +312,7 @@ fn point_from(s: &[u8]) -> Point3
 }
 
 // Point i of those that begin at a place; past the bytes it is the origin.
+#[tactic(auto, using(crate::proofs::Answers::point_none, crate::proofs::Answers::point_past, crate::proofs::Answers::point_here))]
 pub fn point_at(job: &[u8], start: usize, i: usize) -> Point3
     ensures { result ≡ point_at job.now start i }
 {

@@ -18,7 +18,8 @@ ghost use Rattle.lent.specs.Lent.{yes, stored, point_by, plane_by, point_stored,
 ghost use Rattle.leaves.specs.Codes.{sign_code, turn_code, inverted, close_code, side_code, bend_code, shadow};
 
 use exact::Turn;
-use interval::{Interval, Inverse, Sign};
+use interval::{Interval, Sign};
+use refusal::Refusal;
 use side::Side;
 use space::{Closeness, Point3, Precision};
 use turns::Projected;
@@ -45,34 +46,39 @@ fn turn_code(t: Turn) -> u64
     }
 }
 
-fn close_code(c: Closeness) -> u64
+fn close_code(c: Result<Closeness, Refusal>) -> u64
     ensures { result ≡ close_code c }
 {
     match c {
-        Closeness::Near => 1,
-        Closeness::Apart => 0,
-        Closeness::Refused(r) => r.number,
+        Ok(closeness) => match closeness {
+            Closeness::Near => 1,
+            Closeness::Apart => 0,
+        },
+        Err(r) => r.number,
     }
 }
 
-fn side_code(s: Side) -> u64
+fn side_code(s: Result<Side, Refusal>) -> u64
     ensures { result ≡ side_code s }
 {
     match s {
-        Side::Positive => 1,
-        Side::Negative => 2,
-        Side::Zero => 0,
-        Side::Refused(r) => r.number,
+        Ok(side) => match side {
+            Side::Positive => 1,
+            Side::Negative => 2,
+            Side::Zero => 0,
+        },
+        Err(refused) => refused.number,
     }
 }
 
 // The ends of a reciprocal, or nothing.
-fn put_inverse(out: &mut [f64], v: Inverse)
+#[tactic(auto, unfolding(crate::specs::Codes::inverted))]
+fn put_inverse(out: &mut [f64], v: Option<Interval>)
     ensures { out.new ≡ inverted out.old v }
 {
     match v {
-        Inverse::Value(i) => lent::put_ends(out, i),
-        Inverse::Nothing => {}
+        Some(i) => lent::put_ends(out, i),
+        None => {}
     }
 }
 
@@ -242,14 +248,16 @@ pub extern "C" fn leaf_near(ax: f64, ay: f64, az: f64, bx: f64, by: f64, bz: f64
     ))
 }
 
-fn bend_code(t: turns::Turn) -> u64
+fn bend_code(t: Result<turns::Turn, Refusal>) -> u64
     ensures { result ≡ bend_code t }
 {
     match t {
-        turns::Turn::Positive => 1,
-        turns::Turn::Negative => 2,
-        turns::Turn::Zero => 0,
-        turns::Turn::Refused(r) => r.number,
+        Ok(turn) => match turn {
+            turns::Turn::Positive => 1,
+            turns::Turn::Negative => 2,
+            turns::Turn::Zero => 0,
+        },
+        Err(r) => r.number,
     }
 }
 
@@ -274,7 +282,7 @@ pub extern "C" fn leaf_plane(
     let h = lent::point_by(hint);
     let made = space::plane_of(p, o, n, h);
     lent::put_plane(out, lent::plane_in(made));
-    lent::planed_code(made)
+    lent::number_of(made)
 }
 
 #[unsafe(no_mangle)]
@@ -289,7 +297,7 @@ pub extern "C" fn leaf_opposite(plane: &[f64], linear: f64, out: &mut [f64]) -> 
     let w = lent::plane_by(plane);
     let made = side::opposite(w, p);
     lent::put_plane(out, lent::plane_in(made));
-    lent::planed_code(made)
+    lent::number_of(made)
 }
 
 #[unsafe(no_mangle)]

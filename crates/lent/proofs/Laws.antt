@@ -1,4 +1,6 @@
 -- The two ways through each function that looks whether a slice is long enough.
+use Rattle.refusal.specs.Outcome.{Outcome}
+use Rattle.std.specs.Prelude.{Ok, Err}
 use mathlib.Core.Path.{◌≡◌, sym, ap, ◌∙◌}
 use mathlib.Core.Bool.{cond}
 use mathlib.Core.List.{List}
@@ -13,9 +15,6 @@ use Rattle.space.specs.declared.Point3.{Point3}
 use Rattle.space.specs.declared.Frame.{Frame}
 use Rattle.space.specs.declared.Plane.{Plane}
 use Rattle.space.specs.Vector.{origin}
-use Rattle.space.specs.declared.Planed.{Planed}
-use Rattle.space.specs.declared.Planed.TheVariants.{Made, Refused}
-use Rattle.space.specs.Frames.{planed}
 use Rattle.polygon.specs.Memory.{floats, point_at}
 use Rattle.room.specs.Rooms.{frame_floats, frame_at}
 use Rattle.lent.specs.Lent.{stored, point_by, plane_by, flat, point_stored, plane_stored, plane_in}
@@ -64,10 +63,10 @@ unfolding plane_by
 plane_none s w h e = e ∙ sym (ap (λ b. cond b flat (unmarked (frame_at s 0))) (lt-ltb _ _ h))
 
 -- what `plane_in` answers
-pub made_in : (p : Planed) (w : Plane) → p ≡ Made w → w ≡ plane_in (planed p)
-unfolding planed plane_in
-made_in p w e = sym (ap (λ x. plane_in (planed x)) e)
+pub made_in : (p : Outcome Plane) (w : Plane) → p ≡ Ok w → w ≡ plane_in (p)
+unfolding plane_in
+made_in p w e = sym (ap (λ x. plane_in (x)) e)
 
-pub none_in : (p : Planed) (r : Refusal) (w : Plane) → p ≡ Refused r → w ≡ flat → w ≡ plane_in (planed p)
-unfolding planed plane_in
-none_in p r w e f = f ∙ sym (ap (λ x. plane_in (planed x)) e)
+pub none_in : (p : Outcome Plane) (r : Refusal) (w : Plane) → p ≡ Err r → w ≡ flat → w ≡ plane_in (p)
+unfolding plane_in
+none_in p r w e f = f ∙ sym (ap (λ x. plane_in (x)) e)

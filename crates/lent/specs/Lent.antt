@@ -1,11 +1,9 @@
 -- How answers are told in numbers and at the front of a slice of any length. Definitions only.
-use Rattle.std.specs.Prelude.{ℕ, Bool, true, false, cond, List, length, set, leb, ltb, Float}
+use Rattle.std.specs.Prelude.{ℕ, Bool, true, false, cond, List, length, set, leb, ltb, Float, Ok, Err}
 use Rattle.std.proofs.lemmas.List.Edits.{sets}
 use Rattle.std.specs.Float.{binary64}
 use Rattle.std.specs.Float.Ieee.{of_bits}
-use Rattle.refusal.specs.declared.Verdict.{Verdict}
-use Rattle.refusal.specs.declared.Verdict.TheVariants.{Fine, Refused}
-use Rattle.refusal.specs.Outcome.{Outcome, ok, refused}
+use Rattle.refusal.specs.Outcome.{Outcome}
 use Rattle.interval.specs.declared.Interval.{Interval}
 use Rattle.space.specs.declared.Point3.{Point3}
 use Rattle.space.specs.declared.Plane.{Plane}
@@ -22,13 +20,13 @@ unfoldable pub stored : List Float → Interval → List Float
 stored s i = cond (leb 2 (length s)) (set (set s 0 i.lo) 1 i.hi) s
 
 -- 01's number of a verdict, and what is stored only where it is fine
-unfoldable pub number_by : Verdict → ℕ
-number_by Fine = 0
-number_by (Refused r) = r.number
+unfoldable pub number_by : Outcome Unit → ℕ
+number_by (Ok tt) = 0
+number_by (Err r) = r.number
 
-unfoldable pub where_fine : {A : Type 0} → Verdict → A → A → A
-where_fine Fine a b = a
-where_fine (Refused r) a b = b
+unfoldable pub where_fine : {A : Type 0} → Outcome Unit → A → A → A
+where_fine (Ok tt) a b = a
+where_fine (Err r) a b = b
 
 -- the point and the plane that a slice begins with; zeros where it is too short. A plane outside is its frame's 12 numbers.
 unfoldable pub point_by : List Float → Point3
@@ -49,5 +47,5 @@ plane_stored s w = cond (leb 12 (length s)) (sets s 0 (frame_floats w.frame)) s
 
 -- the plane of an outcome, or one of zeros
 unfoldable pub plane_in : Outcome Plane → Plane
-plane_in (ok w) = w
-plane_in (refused r) = flat
+plane_in (Ok w) = w
+plane_in (Err r) = flat

@@ -4,12 +4,11 @@
 // left alone.
 ghost use Rattle.std.specs.Prelude.{◌≡◌};
 ghost use Rattle.refusal.specs.Outcome.{number_of};
-ghost use Rattle.space.specs.Frames.{planed};
 ghost use Rattle.lent.specs.Lent.{yes, stored, number_by, point_by, flat, plane_by, point_stored, plane_stored, plane_in};
 
 use interval::Interval;
-use refusal::Verdict;
-use space::{Frame, Plane, Planed, Point3};
+use refusal::Refusal;
+use space::{Frame, Plane, Point3};
 
 pub fn code(b: bool) -> u64
     ensures { result ≡ yes b }
@@ -18,6 +17,7 @@ pub fn code(b: bool) -> u64
 }
 
 // The ends of an interval.
+#[tactic(auto, unfolding(crate::specs::Lent::stored))]
 pub fn put_ends(out: &mut [f64], i: Interval)
     ensures { out.new ≡ stored out.old i }
 {
@@ -28,16 +28,18 @@ pub fn put_ends(out: &mut [f64], i: Interval)
 }
 
 // 01's number of a verdict.
-pub fn number_by(v: Verdict) -> u64
+#[tactic(auto, unfolding(crate::specs::Lent::number_by))]
+pub fn number_by(v: Result<(), Refusal>) -> u64
     ensures { result ≡ number_by v }
 {
     match v {
-        Verdict::Fine => 0,
-        Verdict::Refused(r) => r.number,
+        Ok(()) => 0,
+        Err(r) => r.number,
     }
 }
 
 // The point and the plane that a slice begins with; zeros where it is too short.
+#[tactic(auto, unfolding(crate::specs::Lent::point_by))]
 pub fn point_by(s: &[f64]) -> Point3
     ensures { result ≡ point_by s.now }
 {
@@ -51,6 +53,7 @@ pub fn point_by(s: &[f64]) -> Point3
     polygon::get_point(s, 0)
 }
 
+#[tactic(auto, unfolding(crate::specs::Lent::flat))]
 pub fn flat() -> Plane
     ensures { result ≡ flat }
 {
@@ -68,6 +71,7 @@ pub fn flat() -> Plane
     Plane { frame, mark: 0.0 }
 }
 
+#[tactic(auto, unfolding(crate::specs::Lent::plane_by))]
 pub fn plane_by(s: &[f64]) -> Plane
     ensures { result ≡ plane_by s.now }
 {
@@ -78,6 +82,7 @@ pub fn plane_by(s: &[f64]) -> Plane
     Plane { frame, mark: 0.0 }
 }
 
+#[tactic(auto, unfolding(crate::specs::Lent::point_stored))]
 pub fn put_point(out: &mut [f64], p: Point3)
     ensures { out.new ≡ point_stored out.old p }
 {
@@ -86,6 +91,7 @@ pub fn put_point(out: &mut [f64], p: Point3)
     }
 }
 
+#[tactic(auto, unfolding(crate::specs::Lent::plane_stored))]
 pub fn put_plane(out: &mut [f64], w: Plane)
     ensures { out.new ≡ plane_stored out.old w }
 {
@@ -95,20 +101,23 @@ pub fn put_plane(out: &mut [f64], w: Plane)
 }
 
 // The plane, or one of zeros.
-pub fn plane_in(p: Planed) -> Plane
-    ensures { result ≡ plane_in (planed p) }
+#[tactic(auto, unfolding(crate::specs::Lent::plane_in))]
+pub fn plane_in(p: Result<Plane, Refusal>) -> Plane
+    ensures { result ≡ plane_in p }
 {
     match p {
-        Planed::Made(w) => w,
-        Planed::Refused(_) => flat(),
+        Ok(w) => w,
+        Err(_) => flat(),
     }
 }
 
-pub fn planed_code(p: Planed) -> u64
-    ensures { result ≡ number_of (planed p) }
+// 01's number of an outcome.
+#[tactic(auto, unfolding(refusal::specs::Outcome::number_of))]
+pub fn number_of<T: Copy>(o: Result<T, Refusal>) -> u64
+    ensures { result ≡ number_of o }
 {
-    match p {
-        Planed::Made(_) => 0,
-        Planed::Refused(r) => r.number,
+    match o {
+        Ok(_) => 0,
+        Err(r) => r.number,
     }
 }

@@ -27,12 +27,9 @@ fn put(out: &mut [u8], at: usize, text: &[u8]) -> usize
     ensures value { result ≡ at + length text.now }
     ensures out_after { out.new ≡ sets out.old at text.now }
 {
-    let mut i = 0;
-    while i < text.len() {
-        out[at + i] = text[i];
-        i += 1;
-    }
-    at + i
+    let end = at + text.len();
+    out[at..end].copy_from_slice(text);
+    end
 }
 
 fn digit(x: u64) -> u8
@@ -48,6 +45,7 @@ fn spell(x: u64, text: &mut [u8; 20]) -> usize
 {
     let mut rest = x;
     let mut i = 19;
+    // It ends with the digits, of which there are as many as x has, so this is no counting loop.
     while (9 < rest) & (0 < i) {
         text[i] = digit(rest);
         rest = rest / 10;
@@ -57,6 +55,7 @@ fn spell(x: u64, text: &mut [u8; 20]) -> usize
     i
 }
 
+#[tactic(auto, using(crate::specs::Text::decimal, crate::specs::Turns::part_all, crate::specs::Turns::decimal_short))]
 fn put_decimal(out: &mut [u8], at: usize, x: u64) -> usize
     requires { at + 20 ≤ length out.old }
     ensures value { (result ≡ at + length (decimal x)) × (result ≤ at + 20) }
@@ -89,6 +88,7 @@ fn put_body(out: &mut [u8], at: usize, body: u64, shells: u64) -> usize
     put(out, d, b"\n")
 }
 
+#[tactic(auto, using(crate::specs::Turns::way_in, crate::specs::Turns::way_out), unfolding(crate::specs::Text::way))]
 fn put_way(out: &mut [u8], at: usize, sense: u64) -> usize
     requires { at + 16 ≤ length out.old }
     ensures value { (result ≡ at + length (way sense)) × (result ≤ at + 16) }
@@ -112,12 +112,6 @@ fn put_shell(out: &mut [u8], at: usize, shell: u64, sense: u64, facets: u64) -> 
     put(out, d, b"\n")
 }
 
-fn wide(b: u8) -> u64
-    ensures { result ≡ b }
-{
-    b as u64
-}
-
 // The byte at a place; 0 past the end.
 fn byte_at(s: &[u8], at: usize) -> u64
     ensures { (result ≡ get_or s.now at 0) × (result < 256) }
@@ -125,9 +119,10 @@ fn byte_at(s: &[u8], at: usize) -> u64
     if s.len() <= at {
         return 0;
     }
-    wide(s[at])
+    u64::from(s[at])
 }
 
+#[tactic(auto, using(crate::specs::Turns::count_is))]
 fn count_at(s: &[u8], at: usize) -> u64
     requires { at ≤ length s.now + 200 }
     ensures { (result ≡ count (drop at s.now)) × (result < 4294967296) }
@@ -140,6 +135,7 @@ fn count_at(s: &[u8], at: usize) -> u64
 }
 
 // The place behind a facet; the end where the bytes end before.
+#[tactic(auto, using(crate::specs::Turns::behind_none, crate::specs::Turns::behind_past, crate::specs::Turns::behind_in))]
 fn behind_facet(s: &[u8], at: usize) -> usize
     requires { at ≤ length s.now + 5 }
     ensures { (drop result s.now ≡ behind (drop at s.now)) × (at ≤ result) × (result ≤ length s.now + 5) }
@@ -154,15 +150,14 @@ fn behind_facet(s: &[u8], at: usize) -> usize
     at + n as usize
 }
 
+#[tactic(auto, using(crate::specs::Turns::skipping_turn, crate::specs::Turns::skipping_end))]
 fn behind_facets(s: &[u8], from: usize, m: u64) -> usize
     requires { from ≤ length s.now + 5 }
     ensures { (drop result s.now ≡ skip m (drop from s.now)) × (from ≤ result) × (result ≤ length s.now + 5) }
 {
     let mut at = from;
-    let mut i = 0u64;
-    while i < m {
+    for _ in 0..m {
         at = behind_facet(s, at);
-        i += 1;
     }
     at
 }
@@ -208,6 +203,7 @@ pub fn put_lines(number: u64, bytes: &[u8], out: &mut [u8]) -> usize
         shell: 0,
         left: 0,
     };
+    // s.at goes from each line's bytes to those of the next, so this is no counting loop.
     while s.at < bytes.len() {
         let r = turn(bytes, s, out, end);
         s = r.spot;

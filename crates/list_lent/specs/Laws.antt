@@ -1,13 +1,12 @@
 -- Laws of the tests on the slices, in the words of the code.
-use Rattle.std.specs.Prelude.{◌≡◌, Bool, not, ◌&&◌, List, ◌∷◌, ℕ, ◌+◌, ◌-◌, ◌*◌, ◌≤◌, ◌<◌, length, take, drop, get_or, Float}
+use Rattle.std.specs.Prelude.{◌≡◌, Bool, not, ◌&&◌, List, ◌∷◌, ℕ, ◌+◌, ◌-◌, ◌*◌, ◌≤◌, ◌<◌, length, take, drop, get_or, Float, Ok, Err}
 use Rattle.std.proofs.Math.Path.{refl, sym, ap, subst}
 use Rattle.std.proofs.Common.{◌∙◌}
 use Rattle.std.proofs.Math.Bool.{true, false, cond, and-false}
 use native.Mathlib.Omega.{arith}
 use Rattle.std.proofs.Math.Dec.{leb}
 use borrow.Author.Tests.{leb-true, le-leb, lt-leb}
-use Rattle.refusal.specs.declared.Verdict.TheVariants.{Fine}
-use Rattle.refusal.specs.Outcome.{ok, refused, refusal_of, unless}
+use Rattle.refusal.specs.Outcome.{refusal_of, unless}
 use Rattle.refusal.specs.Laws.{same_ok}
 use Rattle.refusal.specs.Tests.{and_true}
 use Rattle.lists.specs.Laws.{next, done}
@@ -102,11 +101,11 @@ module _ (low high most : ℕ) (l : List ℕ) (f : ℕ) where
 -- ---- the list
 
 module _ (room k : ℕ) (d : List Float) (n z : List ℕ) (r : Stack) where
-  none : stands room k d n z ≡ false → r ≡ stack_of (refused (refusal_of 64)) → Listed room (list_in room k d n z) r d n z
+  none : stands room k d n z ≡ false → r ≡ stack_of (Err (refusal_of 64)) → Listed room (list_in room k d n z) r d n z
   unfolding list_in
-  none e h = subst (λ o. Listed room o r d n z) (sym (ap (λ b. unless (not b) 64 (ok (cells_at d 0 n (take k z)))) e)) (listed_refused room (refusal_of 64) r d n z h)
+  none e h = subst (λ o. Listed room o r d n z) (sym (ap (λ b. unless (not b) 64 (Ok (cells_at d 0 n (take k z)))) e)) (listed_refused room (refusal_of 64) r d n z h)
 
-  pub lent_large : 4294967296 < room → r ≡ stack_of (refused (refusal_of 64)) → Listed room (list_in room k d n z) r d n z
+  pub lent_large : 4294967296 < room → r ≡ stack_of (Err (refusal_of 64)) → Listed room (list_in room k d n z) r d n z
   unfolding stands
   lent_large a h = none (ap (λ b. b && (leb k (length z) && (sums 1 128 room (take k z) && faces_stand room (total (take k z)) d n))) (lt-leb room 4294967296 a)) h
 
@@ -115,14 +114,14 @@ module _ (room k : ℕ) (d : List Float) (n z : List ℕ) (r : Stack) where
     unfolding stands
     from_cells b e = ap (λ b. b && (leb k (length z) && (sums 1 128 room (take k z) && faces_stand room (total (take k z)) d n))) (le-leb room 4294967296 low) ∙ e
 
-    pub lent_short : length z < k → r ≡ stack_of (refused (refusal_of 64)) → Listed room (list_in room k d n z) r d n z
+    pub lent_short : length z < k → r ≡ stack_of (Err (refusal_of 64)) → Listed room (list_in room k d n z) r d n z
     lent_short a h = none (from_cells false (ap (λ b. b && (sums 1 128 room (take k z) && faces_stand room (total (take k z)) d n)) (lt-leb k (length z) a))) h
 
     module _ (many : k ≤ length z) (f : ℕ) (is : f ≡ total_by 1 128 room (take k z)) where
       from_sizes : (b : Bool) → (sums 1 128 room (take k z) && faces_stand room (total (take k z)) d n) ≡ b → stands room k d n z ≡ b
       from_sizes b e = from_cells b (ap (λ b. b && (sums 1 128 room (take k z) && faces_stand room (total (take k z)) d n)) (le-leb k (length z) many) ∙ e)
 
-      pub lent_sizes : room < f → r ≡ stack_of (refused (refusal_of 64)) → Listed room (list_in room k d n z) r d n z
+      pub lent_sizes : room < f → r ≡ stack_of (Err (refusal_of 64)) → Listed room (list_in room k d n z) r d n z
       lent_sizes a h = none (from_sizes false (ap (λ b. b && faces_stand room (total (take k z)) d n) (total_over 1 128 room (take k z) f is a))) h
 
       module _ (few : f ≤ room) where
@@ -131,7 +130,7 @@ module _ (room k : ℕ) (d : List Float) (n z : List ℕ) (r : Stack) where
             let t = total_fits 1 128 room (take k z) f is few in
             from_sizes b (ap (λ b. b && faces_stand room (total (take k z)) d n) t.0 ∙ ap (λ j. faces_stand room j d n) t.1 ∙ e)
 
-        pub lent_counts : length n < f → r ≡ stack_of (refused (refusal_of 64)) → Listed room (list_in room k d n z) r d n z
+        pub lent_counts : length n < f → r ≡ stack_of (Err (refusal_of 64)) → Listed room (list_in room k d n z) r d n z
         unfolding faces_stand
         lent_counts a h = none (from_faces false (ap (λ b. b && (sums 3 128 room (take f n) && leb (13 * f + 3 * total (take f n)) (length d))) (lt-leb f (length n) a))) h
 
@@ -140,7 +139,7 @@ module _ (room k : ℕ) (d : List Float) (n z : List ℕ) (r : Stack) where
           unfolding faces_stand
           from_counts b e = from_faces b (ap (λ b. b && (sums 3 128 room (take f n) && leb (13 * f + 3 * total (take f n)) (length d))) (le-leb f (length n) within) ∙ e)
 
-          pub lent_corners : room < c → r ≡ stack_of (refused (refusal_of 64)) → Listed room (list_in room k d n z) r d n z
+          pub lent_corners : room < c → r ≡ stack_of (Err (refusal_of 64)) → Listed room (list_in room k d n z) r d n z
           lent_corners a h = none (from_counts false (ap (λ b. b && leb (13 * f + 3 * total (take f n)) (length d)) (total_over 3 128 room (take f n) c sum a))) h
 
           module _ (fit : c ≤ room) where
@@ -149,15 +148,15 @@ module _ (room k : ℕ) (d : List Float) (n z : List ℕ) (r : Stack) where
                 let t = total_fits 3 128 room (take f n) c sum fit in
                 from_counts b (ap (λ b. b && leb (13 * f + 3 * total (take f n)) (length d)) t.0 ∙ ap (λ j. leb (13 * f + 3 * j) (length d)) t.1 ∙ e)
 
-            pub lent_floats : length d < 13 * f + 3 * c → r ≡ stack_of (refused (refusal_of 64)) → Listed room (list_in room k d n z) r d n z
+            pub lent_floats : length d < 13 * f + 3 * c → r ≡ stack_of (Err (refusal_of 64)) → Listed room (list_in room k d n z) r d n z
             lent_floats a h = none (from_floats false (lt-leb (13 * f + 3 * c) (length d) a)) h
 
-            pub lent_list : 13 * f + 3 * c ≤ length d → r ≡ record { verdict = Fine; cells = k; faces = f; corners = c } → Listed room (list_in room k d n z) r d n z
+            pub lent_list : 13 * f + 3 * c ≤ length d → r ≡ record { verdict = Ok tt; cells = k; faces = f; corners = c } → Listed room (list_in room k d n z) r d n z
             unfolding list_in sums
             lent_list a h =
                 let s = total_fits 1 128 room (take k z) f is few in
                 let t = total_fits 3 128 room (take f n) c sum fit in
-                let e : list_in room k d n z ≡ ok (cells_at d 0 n (take k z)) = ap (λ b. unless (not b) 64 (ok (cells_at d 0 n (take k z)))) (from_floats true (le-leb (13 * f + 3 * c) (length d) a)) in
+                let e : list_in room k d n z ≡ Ok (cells_at d 0 n (take k z)) = ap (λ b. unless (not b) 64 (Ok (cells_at d 0 n (take k z)))) (from_floats true (le-leb (13 * f + 3 * c) (length d) a)) in
                 let L : Lies room (cells_at d 0 n (take k z)) d n z =
                 lying room d n z k f c many within (and_true (all_among 1 128 (take k z)) (leb (total (take k z)) room) s.0).0 s.1 (and_true (all_among 3 128 (take f n)) (leb (total (take f n)) room) t.0).0 t.1 fit a in
                 record { is = h ∙ sym (list_told d n z k f c many within s.1 t.1) ∙ ap stack_of (sym e); lies = λ cs g. subst (λ x. Lies room x d n z) (same_ok (sym e ∙ g)) L }

@@ -1,6 +1,6 @@
 -- What stands in three slices that are handed in from outside: a list of cells, or 64. Definitions only.
-use Rattle.std.specs.Prelude.{Bool, true, false, cond, not, ◌&&◌, List, [], ◌∷◌, ℕ, ◌+◌, ◌*◌, length, take, leb, Float}
-use Rattle.refusal.specs.Outcome.{Outcome, ok, unless}
+use Rattle.std.specs.Prelude.{Bool, true, false, cond, not, ◌&&◌, List, [], ◌∷◌, ℕ, ◌+◌, ◌*◌, length, take, leb, Float, Ok}
+use Rattle.refusal.specs.Outcome.{Outcome, unless}
 use Rattle.space.specs.Shapes.{Cell}
 use Rattle.stack.specs.Stacks.{cells_at}
 
@@ -32,4 +32,4 @@ stands room k d n z = leb room 4294967296 && (leb k (length z) && (sums 1 128 ro
 
 -- the list of k cells that stands at the front of the slices
 unfoldable pub list_in : ℕ → ℕ → List Float → List ℕ → List ℕ → Outcome (List Cell)
-list_in room k d n z = unless (not (stands room k d n z)) 64 (ok (cells_at d 0 n (take k z)))
+list_in room k d n z = unless (not (stands room k d n z)) 64 (Ok (cells_at d 0 n (take k z)))

@@ -1,5 +1,5 @@
 -- Numbers in three slices are a list of cells wherever they have the sizes of one.
-use Rattle.std.specs.Prelude.{◌≡◌, refl, true, ◌&&◌, List, [], ◌∷◌, ◌++◌, ℕ, suc, ◌+◌, ◌*◌, ◌≤◌, take, drop, set, get_or, leb, Float}
+use Rattle.std.specs.Prelude.{◌≡◌, refl, true, ◌&&◌, List, [], ◌∷◌, ◌++◌, ℕ, suc, ◌+◌, ◌*◌, ◌≤◌, take, drop, set, get_or, leb, Float, Ok}
 use Rattle.std.proofs.Common.{sym, ◌∙◌, arith, add-one, length-append, length-drop, take-append-drop, take-add, length-take-le, leb-true}
 use Rattle.std.proofs.Math.Path.{ap, ap₂}
 use Rattle.std.proofs.Math.Numerals.{add-two}
@@ -7,8 +7,6 @@ use Rattle.std.proofs.Math.ListN.{length}
 use Rattle.std.proofs.lemmas.List.Edits.{sets, sets-eq}
 use Rattle.std.proofs.lemmas.List.{set-get_or}
 use Rattle.std.specs.Float.{nan}
-use Rattle.refusal.specs.declared.Verdict.TheVariants.{Fine}
-use Rattle.refusal.specs.Outcome.{ok}
 use Rattle.refusal.specs.Tests.{and_true}
 use Rattle.space.specs.Shapes.{Cell, corners, all_corners}
 use Rattle.polygon.specs.Memory.{floats, floats_of, point_at, points_at}
@@ -151,9 +149,9 @@ module _ (d : List Float) (n z : List ℕ) (k f c : ℕ) (many : k ≤ length z)
     faced : length (cells_counts cs) ≡ f
     faced = ap length counted ∙ length-take-le f n within
 
-    pub list_told : stack_of (ok cs) ≡ record { verdict = Fine; cells = k; faces = f; corners = c }
+    pub list_told : stack_of (Ok cs) ≡ record { verdict = Ok tt; cells = k; faces = f; corners = c }
     unfolding stack_of
-    list_told = ap (λ x. record { verdict = Fine; cells = x; faces = length (cells_counts cs); corners = all_corners 0 cs }) listed ∙ ap₂ (λ x y. record { verdict = Fine; cells = k; faces = x; corners = y }) faced cornered
+    list_told = ap (λ x. record { verdict = Ok tt; cells = x; faces = length (cells_counts cs); corners = all_corners 0 cs }) listed ∙ ap₂ (λ x y. record { verdict = Ok tt; cells = k; faces = x; corners = y }) faced cornered
 
 pub lying : (room : ℕ) (d : List Float) (n z : List ℕ) (k f c : ℕ) → k ≤ length z → f ≤ length n → all_among 1 128 (take k z) ≡ true → total (take k z) ≡ f → all_among 3 128 (take f n) ≡ true → total (take f n) ≡ c →
     c ≤ room → 13 * f + 3 * c ≤ length d → Lies room (cells_at d 0 n (take k z)) d n z

@@ -2,12 +2,12 @@
 
 // A list of cells that is handed in from outside stands in three slices. They are tested before anything reads them: 64 says that
 // no list of cells stands there.
-ghost use Rattle.std.specs.Prelude.{◌≡◌, ◌≤◌, length, take};
-ghost use Rattle.refusal.specs.Outcome.{refused, refusal_of};
+ghost use Rattle.std.specs.Prelude.{◌≡◌, ◌≤◌, length, take, Err};
+ghost use Rattle.refusal.specs.Outcome.{refusal_of};
 ghost use Rattle.stack.specs.Stacks.{stack_of, Listed};
 ghost use Rattle.list_lent.specs.Lent.{total_by, list_in};
 
-use refusal::Verdict;
+use refusal::Refusal;
 use stack::Stack;
 
 const NONE: u64 = 64;
@@ -20,8 +20,7 @@ fn total(low: usize, high: usize, most: usize, s: &[u64], n: usize) -> usize
     ensures { result ≡ total_by low high most (take n s.now) }
 {
     let mut sum = 0;
-    let mut i = 0;
-    while i < n {
+    for i in 0..n {
         let c = s[i] as usize;
         if c < low {
             return most + 1;
@@ -33,13 +32,12 @@ fn total(low: usize, high: usize, most: usize, s: &[u64], n: usize) -> usize
             return most + 1;
         }
         sum += c;
-        i += 1;
     }
     sum
 }
 
 fn none() -> Stack
-    ensures { result ≡ stack_of (refused (refusal_of 64)) }
+    ensures { result ≡ stack_of (Err (refusal_of 64)) }
 {
     stack::gone(refusal::refuse(NONE))
 }
@@ -70,7 +68,7 @@ pub fn list_in(limit: usize, cells: usize, d: &[f64], counts: &[u64], sizes: &[u
         return none();
     }
     Stack {
-        verdict: Verdict::Fine,
+        verdict: Ok(()),
         cells,
         faces,
         corners,

@@ -1,18 +1,18 @@
 -- The shells of a body written out, the outward one first.
 use Rattle.std.specs.Prelude.{◌≡◌, refl, take, drop}
 use Rattle.std.proofs.Math.Path.{sym, ap, ap₂}
-use Rattle.std.proofs.Common.{◌∙◌, subst, add-one, take-append-drop, take_all, take-take, drop_at, length-take-le, take-add}
+use Rattle.std.proofs.Common.{◌∙◌, subst, take-append-drop, take_all, take-take, length-take-le}
 use mathlib.Core.List.{List, [], ◌∷◌, ◌++◌, map, map-append, append_assoc, append-nil}
 use Prim.Native.Nat.{ℕ, zero, suc, ◌+◌, ◌-◌, ◌≤◌, ◌<◌}
 use native.Mathlib.Omega.{arith}
 use Rattle.std.proofs.Math.ListN.{length, get_or, length-append}
 use Rattle.std.proofs.Math.Seq.{slice, slice_empty, length-slice}
 use Rattle.std.proofs.lemmas.List.{drop-append-le}
-use Rattle.keys.specs.Rows.{Starts, row, rows, row_at, length_rows}
+use Rattle.keys.specs.Rows.{Starts, rows, row_at, length_rows}
 use Rattle.keys.specs.Each.{starts_le}
 use Rattle.groups.specs.Groups.{joined}
 use Rattle.cavities.specs.Outer.{outer_of}
-use Rattle.listing.specs.Appended.{appended, append_more, length_appended, slice_snoc, gaps, length_gaps}
+use Rattle.listing.specs.Appended.{appended, append_more, slice_snoc, gaps, length_gaps}
 
 pub joined_both : (l m : List (List ℕ)) → joined (l ++ m) ≡ joined l ++ joined m
 unfolding joined

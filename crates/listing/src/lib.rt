@@ -13,11 +13,8 @@ fn copy_part(s: &[u64], a: usize, e: usize, out: &mut [u64], at: usize)
     requires { (a ≤ e) × (e ≤ length s.now) × (at + (e - a) ≤ length out.old) }
     ensures { out.new ≡ appended out.old at (slice a e s.now) }
 {
-    let mut i = a;
-    while i < e {
-        out[at + (i - a)] = s[i];
-        i += 1;
-    }
+    let n = e - a;
+    out[at..at + n].copy_from_slice(&s[a..e]);
 }
 
 // How long row k is.
@@ -35,11 +32,9 @@ fn put_gaps(d: &[u64], c: &[u64], g: usize, a: usize, n: usize, out: &mut [u64],
     requires { Starts d.now c.now g × (a + n ≤ g) × (at + n ≤ length out.old) }
     ensures { out.new ≡ appended out.old at (gaps c.now a n) }
 {
-    let mut i = 0;
-    while i < n {
+    for i in 0..n {
         let size = row_size(d, c, g, a + i);
         out[at + i] = size;
-        i += 1;
     }
 }
 
@@ -65,6 +60,7 @@ pub fn list_facets(d: &[u64], c: &[u64], g: usize, o: usize, out: &mut [u64], at
 }
 
 // And how many each has.
+#[tactic(auto, using(crate::specs::Listed::sizes_listed))]
 pub fn list_sizes(d: &[u64], c: &[u64], g: usize, o: usize, out: &mut [u64], at: usize)
     requires { Starts d.now c.now g × (o < g) × (at + g ≤ length out.old) }
     ensures { out.new ≡ appended out.old at (map length (outer_of (rows d.now c.now g) o)) }

@@ -1,52 +1,50 @@
 -- Laws of merging, in the words of the code.
 use Rattle.std.proofs.Math.Path.{◌≡◌, ap, subst}
-use Rattle.std.specs.Prelude.{refl, Bool, List, ◌++◌, ℕ, ◌+◌, ◌≤◌, ◌<◌, take, drop, set, get_or, ltb, Float}
+use Rattle.std.specs.Prelude.{refl, Bool, List, ◌++◌, ℕ, ◌+◌, ◌≤◌, ◌<◌, take, drop, set, get_or, ltb, Float, Ok, Err}
 use Rattle.std.proofs.Common.{sym, ◌∙◌, arith, add-one, length-append, length-set}
 use Rattle.std.proofs.Math.Bool.{true, false}
 use Rattle.std.proofs.Math.ListN.{length, replicate}
 use Rattle.std.proofs.lemmas.List.{length-replicate, replicate-append-replicate}
 use Rattle.std.proofs.Math.Seq.{sets, length-sets}
 use Rattle.refusal.specs.declared.Refusal.{Refusal}
-use Rattle.refusal.specs.Outcome.{Outcome, ok, refused, then, unless}
+use Rattle.refusal.specs.Outcome.{Outcome, then, unless}
 use Rattle.refusal.specs.Laws.{stop, go}
 use Rattle.space.specs.declared.Precision.{Precision}
 use Rattle.space.specs.Shapes.{Cell, Solid}
 use Rattle.lists.specs.Laws.{next, done}
 use Rattle.polygon.specs.Memory.{floats_of}
 use Rattle.room.specs.Laws.{sets_append}
-use Rattle.indexed.specs.declared.Counted.{Counted}
-use Rattle.indexed.specs.declared.Counted.TheVariants as C
 use Rattle.indexed.specs.declared.Pick.TheVariants.{Only}
 use Rattle.indexed.specs.Indexed.{search_by, index_faces}
-use Rattle.indexed.specs.Stored.{counted, flat, Stored}
-use Rattle.indexed.proofs.Laws.{place_more, counted_made, counted_refused}
+use Rattle.indexed.specs.Stored.{flat, Stored}
+use Rattle.indexed.proofs.Laws.{place_more}
 use Rattle.merge.specs.Merge.{capped, merge, owners_from}
 
 -- ---- 14 after all
 
 module _ (t : Precision) (c : Cell) (p₀ : List Float) (i₀ : List ℕ) (p : List Float) (i : List ℕ) where
-  stopped : (o : Outcome Solid) (r : Counted) (x : Refusal) → index_faces (search_by Only t) c ≡ o → r ≡ C.Refused x → Stored o p₀ i₀ p i r → Stored (merge t c) p₀ i₀ p i r
+  stopped : (o : Outcome Solid) (r r' : Outcome ℕ) (x : Refusal) → index_faces (search_by Only t) c ≡ o → r ≡ Err x → r' ≡ Err x → Stored o p₀ i₀ p i r → Stored (merge t c) p₀ i₀ p i r'
   unfolding merge Stored
-  stopped (ok s) r x g e k = absurd (let a = k.0 in let z : ◌≡◌ {A = ℕ} 0 1 = cc in omega arith)
-  stopped (refused y) r x g e k = subst (λ o. Stored o p₀ i₀ p i r) (sym (stop _ _ y g)) k
+  stopped (Ok s) r r' x g e f k = absurd (let a = k.0 in let z : ◌≡◌ {A = ℕ} 0 1 = cc in omega arith)
+  stopped (Err y) r r' x g e f k = (let u = k.0 in let v : x ≡ y = cc in subst (λ o. Stored o p₀ i₀ p i r') (sym (stop _ _ y g)) (f ∙ ap Err v, k.1, k.2))
 
-  pub merge_stop : (r : Counted) (x : Refusal) → Stored (index_faces (search_by Only t) c) p₀ i₀ p i r → r ≡ C.Refused x → Stored (merge t c) p₀ i₀ p i r
-  merge_stop r x h e = stopped (index_faces (search_by Only t) c) r x refl e h
+  pub merge_stop : (r r' : Outcome ℕ) (x : Refusal) → Stored (index_faces (search_by Only t) c) p₀ i₀ p i r → r ≡ Err x → r' ≡ Err x → Stored (merge t c) p₀ i₀ p i r'
+  merge_stop r r' x h e f = stopped (index_faces (search_by Only t) c) r r' x refl e f h
 
-  tested : (s : Solid) (b : Bool) (r : Counted) → p ≡ sets p₀ 0 (floats_of s.points) → i ≡ sets i₀ 0 (flat s.faces) →
-      counted r ≡ unless b 14 (ok (length s.points)) → Stored (then (unless b 14 (ok (length s.points))) (λ _. ok s)) p₀ i₀ p i r
+  tested : (s : Solid) (b : Bool) (r : Outcome ℕ) → p ≡ sets p₀ 0 (floats_of s.points) → i ≡ sets i₀ 0 (flat s.faces) →
+      r ≡ unless b 14 (Ok (length s.points)) → Stored (then (unless b 14 (Ok (length s.points))) (λ _. Ok s)) p₀ i₀ p i r
   unfolding Stored
-  tested s true r a d e = (counted_refused r _ e, ap length a ∙ length-sets p₀ 0 (floats_of s.points), ap length d ∙ length-sets i₀ 0 (flat s.faces))
-  tested s false r a d e = (counted_made r _ e, a, d)
+  tested s true r a d e = (e, ap length a ∙ length-sets p₀ 0 (floats_of s.points), ap length d ∙ length-sets i₀ 0 (flat s.faces))
+  tested s false r a d e = (e, a, d)
 
-  gone : (o : Outcome Solid) (r r' : Counted) (m : ℕ) → index_faces (search_by Only t) c ≡ o → r ≡ C.Made m → counted r' ≡ capped m → Stored o p₀ i₀ p i r → Stored (merge t c) p₀ i₀ p i r'
+  gone : (o : Outcome Solid) (r r' : Outcome ℕ) (m : ℕ) → index_faces (search_by Only t) c ≡ o → r ≡ Ok m → r' ≡ capped m → Stored o p₀ i₀ p i r → Stored (merge t c) p₀ i₀ p i r'
   unfolding merge Stored
-  gone (ok s) r r' m g e f k =
+  gone (Ok s) r r' m g e f k =
       let n : m ≡ length s.points = (let a = k.0 in cc) in
       subst (λ o. Stored o p₀ i₀ p i r') (sym (go _ _ s g)) (tested s (ltb 4096 (length s.points)) r' k.1 k.2 (f ∙ ap capped n))
-  gone (refused y) r r' m g e f k = absurd (let a = k.0 in let z : ◌≡◌ {A = ℕ} 0 1 = cc in omega arith)
+  gone (Err y) r r' m g e f k = absurd (let a = k.0 in let z : ◌≡◌ {A = ℕ} 0 1 = cc in omega arith)
 
-  pub merge_go : (r r' : Counted) (m : ℕ) → Stored (index_faces (search_by Only t) c) p₀ i₀ p i r → r ≡ C.Made m → counted r' ≡ capped m → Stored (merge t c) p₀ i₀ p i r'
+  pub merge_go : (r r' : Outcome ℕ) (m : ℕ) → Stored (index_faces (search_by Only t) c) p₀ i₀ p i r → r ≡ Ok m → r' ≡ capped m → Stored (merge t c) p₀ i₀ p i r'
   merge_go r r' m h e f = gone (index_faces (search_by Only t) c) r r' m refl e f h
 
 -- ---- owners

@@ -1,6 +1,6 @@
 -- Laws of the mesh, in the words of the code.
 use Rattle.std.proofs.Math.Path.{◌≡◌, sym, ap}
-use Rattle.std.specs.Prelude.{refl, Bool, true, false, not, ◌&&◌, ◌⊎◌, List, [], ◌∷◌, ◌++◌, take, get_or, set, Float}
+use Rattle.std.specs.Prelude.{refl, Bool, true, false, ◌&&◌, ◌⊎◌, List, [], ◌∷◌, ◌++◌, take, get_or, set, Float, Ok, Err}
 use Rattle.std.proofs.Common.{◌∙◌, inl, inr, length-append, get_or-take, length-take-le}
 use Rattle.std.proofs.Math.Logic.{⊎_elim}
 use Prim.Native.Nat.{ℕ, zero, suc, ◌+◌, ◌-◌, ◌*◌, ◌/◌, ◌≤◌, ◌<◌}
@@ -8,9 +8,7 @@ use native.Mathlib.Omega.{arith}
 use Rattle.std.proofs.Math.Decide.{dec_lt}
 use Rattle.std.proofs.Math.ListN.{length, get_or-eq_default}
 use Rattle.refusal.specs.declared.Refusal.{Refusal}
-use Rattle.refusal.specs.declared.Verdict.{Verdict}
-use Rattle.refusal.specs.declared.Verdict.TheVariants.{Fine, Refused}
-use Rattle.refusal.specs.Outcome.{Outcome, ok, refused, refuse, refusal_of, then, unless, each}
+use Rattle.refusal.specs.Outcome.{Outcome, refuse, refusal_of, then, unless, each}
 use Rattle.lists.specs.Laws.{pad_set}
 use Rattle.lists.specs.Walks.{all}
 use Rattle.space.specs.declared.Precision.{Precision}
@@ -19,12 +17,10 @@ use Rattle.space.specs.Vector.{finite_point}
 use Rattle.turns.specs.declared.Projected.{Projected}
 use Rattle.turns.specs.declared.Turn.{Turn}
 use Rattle.turns.specs.declared.Turn.TheVariants as T
-use Rattle.turns.specs.Turns.{orientation_of}
 use Rattle.outline.specs.declared.Outline.{Outline}
-use Rattle.outline.specs.declared.Outlined.{Outlined}
 use Rattle.polygon.specs.Memory.{point_at, points_at}
 use Rattle.polygon.specs.MemoryLaws.{points_next, points_done, length_points_at}
-use Rattle.outline.specs.Project.{astray, facet_of, points_of, outline, outlined}
+use Rattle.outline.specs.Project.{facet_of, points_of, outline, outlined}
 use Rattle.outline.specs.Laws.{points_outline}
 use Rattle.ears.specs.declared.Active.{Active}
 use Rattle.ears.specs.declared.Triangle.{Triangle}
@@ -34,48 +30,47 @@ use Rattle.ears.specs.declared.Found.{Found}
 use Rattle.ears.specs.declared.Found.TheVariants as F
 use Rattle.ears.specs.Places.{active, places_of, up_from, without, window_at}
 use Rattle.ears.specs.Ears.{Ready, turn_at, blocked_by, ear_by, found_by, found_at, scan_from, scan_of}
-use Rattle.ears.specs.Laws.{places_active, length_up, get_d_up, length_without, without_before, without_after, turn_is, Within}
+use Rattle.ears.specs.Laws.{places_active, length_up, get_d_up, length_without, without_before, without_after, Within}
 use Rattle.mesh.specs.declared.Triples.{Triples}
-use Rattle.mesh.specs.declared.Meshed.{Meshed}
-use Rattle.mesh.specs.Mesh.{Clipping, clip_by, clip_one, clip_from, clip_all, first_three, end_by, end_of, begun, clipped_of, given, blank, padded, triples, meshed, pushed, last_by, last_in}
+use Rattle.mesh.specs.Mesh.{Clipping, clip_by, clip_one, clip_from, clip_all, first_three, end_by, end_of, begun, clipped_of, blank, padded, triples, meshed, pushed, last_by, last_in}
 
 -- ---- what a scan's answer says
 
-ear_by_lem : (b : Block) (i : ℕ) (w : Triangle) (rest : Found) (j : ℕ) (v : Triangle) → ear_by b i w rest ≡ F.Ear j v → ((i ≡ j) × (w ≡ v)) ⊎ (rest ≡ F.Ear j v)
+ear_by_lem : (b : Outcome Block) (i : ℕ) (w : Triangle) (rest : Outcome Found) (j : ℕ) (v : Triangle) → ear_by b i w rest ≡ Ok (F.Ear j v) → ((i ≡ j) × (w ≡ v)) ⊎ (rest ≡ Ok (F.Ear j v))
 unfolding ear_by
-ear_by_lem B.Clear i w rest j v e = inl (cc, cc)
-ear_by_lem B.Blocked i w rest j v e = inr e
-ear_by_lem (B.Refused r) i w rest j v e = let z : ◌≡◌ {A = ℕ} 0 1 = cc in absurd (omega arith)
+ear_by_lem (Ok B.Clear) i w rest j v e = inl (cc, cc)
+ear_by_lem (Ok B.Blocked) i w rest j v e = inr e
+ear_by_lem (Err r) i w rest j v e = let z : ◌≡◌ {A = ℕ} 0 1 = cc in absurd (omega arith)
 
-found_ear : (t : Turn) (b : Block) (i : ℕ) (w : Triangle) (rest : Found) (j : ℕ) (v : Triangle) → found_by t b i w rest ≡ F.Ear j v
-    → ((t ≡ T.Positive) × (i ≡ j) × (w ≡ v)) ⊎ (rest ≡ F.Ear j v)
+found_ear : (t : Outcome Turn) (b : Outcome Block) (i : ℕ) (w : Triangle) (rest : Outcome Found) (j : ℕ) (v : Triangle) → found_by t b i w rest ≡ Ok (F.Ear j v)
+    → ((t ≡ Ok T.Positive) × (i ≡ j) × (w ≡ v)) ⊎ (rest ≡ Ok (F.Ear j v))
 unfolding found_by
-found_ear T.Positive b i w rest j v e = ⊎_elim (λ q. inl (refl, q.0, q.1)) (λ q. inr q) (ear_by_lem b i w rest j v e)
-found_ear T.Negative b i w rest j v e = inr e
-found_ear T.Zero b i w rest j v e = let z : ◌≡◌ {A = ℕ} 0 1 = cc in absurd (omega arith)
-found_ear (T.Refused r) b i w rest j v e = let z : ◌≡◌ {A = ℕ} 0 1 = cc in absurd (omega arith)
+found_ear (Ok T.Positive) b i w rest j v e = ⊎_elim (λ q. inl (refl, q.0, q.1)) (λ q. inr q) (ear_by_lem b i w rest j v e)
+found_ear (Ok T.Negative) b i w rest j v e = inr e
+found_ear (Ok T.Zero) b i w rest j v e = let z : ◌≡◌ {A = ℕ} 0 1 = cc in absurd (omega arith)
+found_ear (Err r) b i w rest j v e = let z : ◌≡◌ {A = ℕ} 0 1 = cc in absurd (omega arith)
 
-straight_by : (b : Block) (i : ℕ) (w : Triangle) (rest : Found) (j : ℕ) → ear_by b i w rest ≡ F.Straight j → rest ≡ F.Straight j
+straight_by : (b : Outcome Block) (i : ℕ) (w : Triangle) (rest : Outcome Found) (j : ℕ) → ear_by b i w rest ≡ Ok (F.Straight j) → rest ≡ Ok (F.Straight j)
 unfolding ear_by
-straight_by B.Clear i w rest j e = let z : ◌≡◌ {A = ℕ} 0 1 = cc in absurd (omega arith)
-straight_by B.Blocked i w rest j e = e
-straight_by (B.Refused r) i w rest j e = let z : ◌≡◌ {A = ℕ} 0 1 = cc in absurd (omega arith)
+straight_by (Ok B.Clear) i w rest j e = let z : ◌≡◌ {A = ℕ} 0 1 = cc in absurd (omega arith)
+straight_by (Ok B.Blocked) i w rest j e = e
+straight_by (Err r) i w rest j e = let z : ◌≡◌ {A = ℕ} 0 1 = cc in absurd (omega arith)
 
-found_straight : (t : Turn) (b : Block) (i : ℕ) (w : Triangle) (rest : Found) (j : ℕ) → found_by t b i w rest ≡ F.Straight j → (i ≡ j) ⊎ (rest ≡ F.Straight j)
+found_straight : (t : Outcome Turn) (b : Outcome Block) (i : ℕ) (w : Triangle) (rest : Outcome Found) (j : ℕ) → found_by t b i w rest ≡ Ok (F.Straight j) → (i ≡ j) ⊎ (rest ≡ Ok (F.Straight j))
 unfolding found_by
-found_straight T.Positive b i w rest j e = inr (straight_by b i w rest j e)
-found_straight T.Negative b i w rest j e = inr e
-found_straight T.Zero b i w rest j e = inl (cc)
-found_straight (T.Refused r) b i w rest j e = let z : ◌≡◌ {A = ℕ} 0 1 = cc in absurd (omega arith)
+found_straight (Ok T.Positive) b i w rest j e = inr (straight_by b i w rest j e)
+found_straight (Ok T.Negative) b i w rest j e = inr e
+found_straight (Ok T.Zero) b i w rest j e = inl (cc)
+found_straight (Err r) b i w rest j e = let z : ◌≡◌ {A = ℕ} 0 1 = cc in absurd (omega arith)
 
 -- an ear is the window at its place, which is one of the list, and turns Positive
 pub record Eared (p : Precision) (ps : List Projected) (l : List ℕ) (j : ℕ) (v : Triangle) : Type 0 where
   pub place : j < length l
   pub window : v ≡ window_at l j
-  pub turn : turn_at p ps v ≡ T.Positive
+  pub turn : turn_at p ps v ≡ Ok T.Positive
 
 module _ (p : Precision) (ps : List Projected) (l : List ℕ) where
-  eared_from : (k i j : ℕ) (v : Triangle) → i + k ≤ length l → scan_from p ps l i k ≡ F.Ear j v → Eared p ps l j v
+  eared_from : (k i j : ℕ) (v : Triangle) → i + k ≤ length l → scan_from p ps l i k ≡ Ok (F.Ear j v) → Eared p ps l j v
   unfolding scan_from found_at
   eared_from zero i j v h e = let z : ◌≡◌ {A = ℕ} 0 1 = cc in absurd (omega arith)
   eared_from (suc k) i j v h e =
@@ -84,11 +79,11 @@ module _ (p : Precision) (ps : List Projected) (l : List ℕ) where
       (λ q. eared_from k (suc i) j v (omega arith) q)
       (found_ear (turn_at p ps (window_at l i)) (blocked_by p ps (window_at l i) l) i (window_at l i) (scan_from p ps l (suc i) k) j v e)
 
-  pub eared : (j : ℕ) (v : Triangle) → scan_of p ps l ≡ F.Ear j v → Eared p ps l j v
+  pub eared : (j : ℕ) (v : Triangle) → scan_of p ps l ≡ Ok (F.Ear j v) → Eared p ps l j v
   unfolding scan_of
   eared j v e = eared_from (length l) 0 j v (omega arith) e
 
-  straight_from : (k i j : ℕ) → i + k ≤ length l → scan_from p ps l i k ≡ F.Straight j → j < length l
+  straight_from : (k i j : ℕ) → i + k ≤ length l → scan_from p ps l i k ≡ Ok (F.Straight j) → j < length l
   unfolding scan_from found_at
   straight_from zero i j h e = let z : ◌≡◌ {A = ℕ} 0 1 = cc in absurd (omega arith)
   straight_from (suc k) i j h e =
@@ -97,7 +92,7 @@ module _ (p : Precision) (ps : List Projected) (l : List ℕ) where
       (λ q. straight_from k (suc i) j (omega arith) q)
       (found_straight (turn_at p ps (window_at l i)) (blocked_by p ps (window_at l i) l) i (window_at l i) (scan_from p ps l (suc i) k) j e)
 
-  pub straight_place : (j : ℕ) → scan_of p ps l ≡ F.Straight j → j < length l
+  pub straight_place : (j : ℕ) → scan_of p ps l ≡ Ok (F.Straight j) → j < length l
   unfolding scan_of
   straight_place j e = straight_from (length l) 0 j (omega arith) e
 
@@ -121,13 +116,13 @@ module _ (p : Precision) (ps : List Projected) (l : List ℕ) (e : List Triangle
   abbrev pub state : Clipping
   state = record { left = l; ears = e }
 
-  turn_of : (x : Found) → 3 < length l → x ≡ scan_of p ps l → clip_all p ps state ≡ then (clip_by x state) (clip_from (length l - 4) p ps)
+  turn_of : (x : Outcome Found) → 3 < length l → x ≡ scan_of p ps l → clip_all p ps state ≡ then (clip_by x state) (clip_from (length l - 4) p ps)
   unfolding clip_all clip_from clip_one
   turn_of x h f =
       let k : length l - 3 ≡ suc (length l - 4) = omega arith in
       ap (λ m. clip_from m p ps state) k ∙ ap (λ y. then (clip_by y state) (clip_from (length l - 4) p ps)) (sym f)
 
-  pub clip_ear : (x : Found) (i : ℕ) (t : Triangle) → 3 < length l → x ≡ scan_of p ps l → x ≡ F.Ear i t
+  pub clip_ear : (x : Outcome Found) (i : ℕ) (t : Triangle) → 3 < length l → x ≡ scan_of p ps l → x ≡ Ok (F.Ear i t)
       → clip_all p ps state ≡ clip_all p ps (record { left = without i l; ears = e ++ (t ∷ []) })
   unfolding clip_by clip_all
   clip_ear x i t h f g =
@@ -136,7 +131,7 @@ module _ (p : Precision) (ps : List Projected) (l : List ℕ) (e : List Triangle
       turn_of x h f ∙ ap (λ y. then (clip_by y state) (clip_from (length l - 4) p ps)) g
       ∙ ap (λ m. clip_from m p ps (record { left = without i l; ears = e ++ (t ∷ []) })) k
 
-  pub clip_straight : (x : Found) (i : ℕ) → 3 < length l → x ≡ scan_of p ps l → x ≡ F.Straight i
+  pub clip_straight : (x : Outcome Found) (i : ℕ) → 3 < length l → x ≡ scan_of p ps l → x ≡ Ok (F.Straight i)
       → clip_all p ps state ≡ clip_all p ps (record { left = without i l; ears = e })
   unfolding clip_by clip_all
   clip_straight x i h f g =
@@ -145,40 +140,32 @@ module _ (p : Precision) (ps : List Projected) (l : List ℕ) (e : List Triangle
       turn_of x h f ∙ ap (λ y. then (clip_by y state) (clip_from (length l - 4) p ps)) g
       ∙ ap (λ m. clip_from m p ps (record { left = without i l; ears = e })) k
 
-  pub clip_none : (x : Found) → 3 < length l → x ≡ scan_of p ps l → x ≡ F.Nothing → clip_all p ps state ≡ refuse 31
+  pub clip_none : (x : Outcome Found) → 3 < length l → x ≡ scan_of p ps l → x ≡ Ok F.Nothing → clip_all p ps state ≡ refuse 31
   unfolding clip_by
   clip_none x h f g = turn_of x h f ∙ ap (λ y. then (clip_by y state) (clip_from (length l - 4) p ps)) g
 
-  pub clip_refused : (x : Found) (r : Refusal) → 3 < length l → x ≡ scan_of p ps l → x ≡ F.Refused r → clip_all p ps state ≡ refused r
+  pub clip_refused : (x : Outcome Found) (r : Refusal) → 3 < length l → x ≡ scan_of p ps l → x ≡ Err r → clip_all p ps state ≡ Err r
   unfolding clip_by
   clip_refused x r h f g = turn_of x h f ∙ ap (λ y. then (clip_by y state) (clip_from (length l - 4) p ps)) g
 
-  pub clip_end : length l ≤ 3 → clip_all p ps state ≡ ok state
+  pub clip_end : length l ≤ 3 → clip_all p ps state ≡ Ok state
   unfolding clip_all clip_from
   clip_end h = let k : length l - 3 ≡ 0 = omega arith in ap (λ m. clip_from m p ps state) k
 
 -- ---- the answer
 
--- one more triple before the padding
-pub stored : (a l : List Triangle) (i : ℕ) (t : Triangle) → a ≡ padded l → i ≡ length l → length l < 126 → set a i t ≡ padded (l ++ (t ∷ []))
-stored a l i t e k h = ap (λ x. set x i t) e ∙ ap (λ j. set (padded l) j t) k ∙ pad_set l 126 blank t h
-
-pub triples_are : (a l : List Triangle) (n : ℕ) → a ≡ padded l → n ≡ length l → ◌≡◌ {A = Triples} (record { at = a; n = n }) (triples l)
-triples_are a l n e k = cc
-
-pushed_is : (l : List Triangle) (w : Triangle) → length l < 126 → pushed (triples l) w ≡ meshed (ok (l ++ (w ∷ [])))
-unfolding meshed
+pub pushed_is : (l : List Triangle) (w : Triangle) → length l < 126 → pushed (triples l) w ≡ triples (l ++ (w ∷ []))
 pushed_is l w h =
     let e : set (padded l) (length l) w ≡ padded (l ++ (w ∷ [])) = pad_set l 126 blank w h in
     let k : length l + 1 ≡ length (l ++ (w ∷ [])) = sym (length-append l (w ∷ [])) in
-    cc (ap {B = Meshed} (λ t. record { verdict = Fine; triples = t }) (triples_are _ (l ++ (w ∷ [])) _ e k))
+    cc
 
-last_by_lem : (t : Turn) (l : List Triangle) (w : Triangle) → length l < 126 → last_by t (triples l) w ≡ meshed (end_by t l w)
-unfolding last_by end_by
-last_by_lem T.Positive l w h = pushed_is l w h
-last_by_lem T.Negative l w h = refl
-last_by_lem T.Zero l w h = refl
-last_by_lem (T.Refused r) l w h = refl
+last_by_lem : (t : Outcome Turn) (l : List Triangle) (w : Triangle) → length l < 126 → last_by t (triples l) w ≡ meshed (end_by t l w)
+unfolding last_by end_by meshed
+last_by_lem (Ok T.Positive) l w h = ap {B = Outcome Triples} Ok (pushed_is l w h)
+last_by_lem (Ok T.Negative) l w h = refl
+last_by_lem (Ok T.Zero) l w h = refl
+last_by_lem (Err r) l w h = refl
 
 pub last_in_lem : (p : Precision) (ps : List Projected) (l : List ℕ) (e : List Triangle) → length e < 126 → last_in p ps l (triples e) ≡ meshed (end_of p ps (state p ps l e))
 unfolding last_in end_of
@@ -202,20 +189,20 @@ pub clip_start : (p : Precision) (l : List Projected) (n : ℕ) → n ≤ length
 unfolding clipped_of
 clip_start p l n h = ap (λ m. then (clip_all p (take n l) (begun m)) (end_of p (take n l))) (sym (length-take-le n l h))
 
-module _ (p : Precision) (ps : List Projected) (l : List ℕ) (e : List Triangle) (x : Found) (h : 3 < length l) (f : x ≡ scan_of p ps l) where
-  pub yields_ear : (i : ℕ) (t : Triangle) → x ≡ F.Ear i t → yields p ps l e ≡ yields p ps (without i l) (e ++ (t ∷ []))
+module _ (p : Precision) (ps : List Projected) (l : List ℕ) (e : List Triangle) (x : Outcome Found) (h : 3 < length l) (f : x ≡ scan_of p ps l) where
+  pub yields_ear : (i : ℕ) (t : Triangle) → x ≡ Ok (F.Ear i t) → yields p ps l e ≡ yields p ps (without i l) (e ++ (t ∷ []))
   yields_ear i t g = ap (λ o. then o (end_of p ps)) (clip_ear p ps l e x i t h f g)
 
-  pub yields_straight : (i : ℕ) → x ≡ F.Straight i → yields p ps l e ≡ yields p ps (without i l) e
+  pub yields_straight : (i : ℕ) → x ≡ Ok (F.Straight i) → yields p ps l e ≡ yields p ps (without i l) e
   yields_straight i g = ap (λ o. then o (end_of p ps)) (clip_straight p ps l e x i h f g)
 
-  pub yields_none : x ≡ F.Nothing → yields p ps l e ≡ refuse 31
+  pub yields_none : x ≡ Ok F.Nothing → yields p ps l e ≡ refuse 31
   yields_none g = ap (λ o. then o (end_of p ps)) (clip_none p ps l e x h f g)
 
-  pub yields_refused : (r : Refusal) → x ≡ F.Refused r → yields p ps l e ≡ refused r
+  pub yields_refused : (r : Refusal) → x ≡ Err r → yields p ps l e ≡ Err r
   yields_refused r g = ap (λ o. then o (end_of p ps)) (clip_refused p ps l e x r h f g)
 
-pub yields_end : (p : Precision) (ps : List Projected) (l : List ℕ) (e : List Triangle) (a : Active) (t : Triples) (m : Meshed) → length l ≤ 3 → length e < 126
+pub yields_end : (p : Precision) (ps : List Projected) (l : List ℕ) (e : List Triangle) (a : Active) (t : Triples) (m : Outcome Triples) → length l ≤ 3 → length e < 126
     → a ≡ active l → t ≡ triples e → m ≡ last_in p ps (places_of a) t → m ≡ meshed (yields p ps l e)
 yields_end p ps l e a t m h k f g q =
     q ∙ ap (λ b. last_in p ps (places_of b) t) f ∙ ap (λ b. last_in p ps b t) (places_active l) ∙ ap (last_in p ps l) g ∙ last_in_lem p ps l e k
@@ -229,89 +216,68 @@ ready o a l few e h low = record {
 }
 
 -- the places of a scan's list, by the list that an array holds
-pub scan_places : (p : Precision) (ps : List Projected) (a : Active) (l : List ℕ) (x : Found) → a ≡ active l → x ≡ scan_of p ps (places_of a) → x ≡ scan_of p ps l
+pub scan_places : (p : Precision) (ps : List Projected) (a : Active) (l : List ℕ) (x : Outcome Found) → a ≡ active l → x ≡ scan_of p ps (places_of a) → x ≡ scan_of p ps l
 scan_places p ps a l x e f = f ∙ ap (λ b. scan_of p ps (places_of b)) e ∙ ap (scan_of p ps) (places_active l)
 
 pub removed : (a b : Active) (l : List ℕ) (i : ℕ) → a ≡ active l → b ≡ active (without i (places_of a)) → b ≡ active (without i l)
 removed a b l i e f = f ∙ ap (λ x. active (without i (places_of x))) e ∙ ap (λ x. active (without i x)) (places_active l)
 
--- ---- the four ways of the last triangle
+-- ---- the last triangle
 
-module _ (s : Turn) (out : Triples) (w : Triangle) (m : Meshed) where
-  pub last_positive : s ≡ T.Positive → m ≡ pushed out w → m ≡ last_by s out w
-  unfolding last_by
-  last_positive e f = f ∙ ap (λ t. last_by t out w) (sym e)
-
-  pub last_negative : (r : Refusal) → s ≡ T.Negative → r ≡ refusal_of 32 → m ≡ meshed (refused r) → m ≡ last_by s out w
-  unfolding last_by
-  last_negative r e g f = f ∙ ap (λ x. meshed (refused x)) g ∙ ap (λ t. last_by t out w) (sym e)
-
-  pub last_zero : (r : Refusal) → s ≡ T.Zero → r ≡ refusal_of 32 → m ≡ meshed (refused r) → m ≡ last_by s out w
-  unfolding last_by
-  last_zero r e g f = f ∙ ap (λ x. meshed (refused x)) g ∙ ap (λ t. last_by t out w) (sym e)
-
-  pub last_refused : (r : Refusal) → s ≡ T.Refused r → m ≡ meshed (refused r) → m ≡ last_by s out w
-  unfolding last_by
-  last_refused r e f = f ∙ ap (λ t. last_by t out w) (sym e)
-
-pub last_is : (p : Precision) (l : List Projected) (n : ℕ) (b : List ℕ) (k : ℕ) (out : Triples) (s : Turn) (m : Meshed) → 3 ≤ k
-    → ((j : ℕ) → get_or (take k b) j 0 < n) → s ≡ orientation_of p (get_or l (get_or b 0 0) astray) (get_or l (get_or b 1 0) astray) (get_or l (get_or b 2 0) astray)
-    → m ≡ last_by s out (first_three b) → m ≡ last_in p (take n l) (take k b) out
-unfolding last_in
-last_is p l n b k out s m h low e f =
-    let t = three_are b k h in
+-- its places are of the outline
+pub three_low : (b : List ℕ) (k n : ℕ) → 3 ≤ k → ((j : ℕ) → get_or (take k b) j 0 < n) → Within n (first_three b)
+three_low b k n h low =
     let a₀ = get_or-take k b 0 0 (omega arith) in
     let a₁ = get_or-take k b 1 0 (omega arith) in
     let a₂ = get_or-take k b 2 0 (omega arith) in
-    let W : Within n (first_three b) = record { a_low = omega (arith, low 0); b_low = omega (arith, low 1); c_low = omega (arith, low 2) } in
-    let q = turn_is p l n (first_three b) W s e in
-    f ∙ ap (λ x. last_by x out (first_three b)) q ∙ ap (λ w. last_by (turn_at p (take n l) w) out w) (sym t)
+    record { a_low = omega (arith, low 0); b_low = omega (arith, low 1); c_low = omega (arith, low 2) }
+
+pub last_is : (p : Precision) (ps : List Projected) (b : List ℕ) (k : ℕ) (out : Triples) (s : Outcome Turn) (m : Outcome Triples) → 3 ≤ k
+    → s ≡ turn_at p ps (first_three b) → m ≡ last_by s out (first_three b) → m ≡ last_in p ps (take k b) out
+unfolding last_in
+last_is p ps b k out s m h e f =
+    f ∙ ap (λ x. last_by x out (first_three b)) e ∙ ap (λ w. last_by (turn_at p ps w) out w) (sym (three_are b k h))
 
 -- ---- verdicts before the rest
 
-module _ (v : Verdict) (o : Outcome (List Triangle)) (m : Meshed) where
-  pub given_fine : v ≡ Fine → m ≡ meshed o → m ≡ meshed (given v o)
-  unfolding given
-  given_fine e f = f ∙ ap (λ x. meshed (given x o)) (sym e)
+pub unless_yes : (b : Bool) (k : ℕ) (o : Outcome (List Triangle)) (r : Refusal) → b ≡ true → r ≡ refusal_of k → ◌≡◌ {A = Outcome Triples} (Err r) (meshed (unless b k o))
+unfolding meshed
+unless_yes b k o r e g = ap {B = Outcome Triples} Err g ∙ ap (λ x. meshed (unless x k o)) (sym e)
 
-  pub given_refused : (r : Refusal) → v ≡ Refused r → m ≡ meshed (refused r) → m ≡ meshed (given v o)
-  unfolding given
-  given_refused r e f = f ∙ ap (λ x. meshed (given x o)) (sym e)
-
-pub unless_yes : (b : Bool) (k : ℕ) (o : Outcome (List Triangle)) (r : Refusal) (m : Meshed) → b ≡ true → r ≡ refusal_of k → m ≡ meshed (refused r) → m ≡ meshed (unless b k o)
-unless_yes b k o r m e g f = f ∙ ap (λ x. meshed (refused x)) g ∙ ap (λ x. meshed (unless x k o)) (sym e)
-
-pub unless_no : (b : Bool) (k : ℕ) (o : Outcome (List Triangle)) (m : Meshed) → b ≡ false → m ≡ meshed o → m ≡ meshed (unless b k o)
+pub unless_no : (b : Bool) (k : ℕ) (o : Outcome (List Triangle)) (m : Outcome Triples) → b ≡ false → m ≡ meshed o → m ≡ meshed (unless b k o)
 unless_no b k o m e f = f ∙ ap (λ x. meshed (unless x k o)) (sym e)
+
+-- ---- a refusal is handed on
+
+pub meshed_stop : (o : Outcome (List Triangle)) (r : Refusal) → o ≡ Err r → ◌≡◌ {A = Outcome Triples} (Err r) (meshed o)
+unfolding meshed
+meshed_stop o r e = ap meshed (sym e)
 
 -- ---- an outline that was made, or not
 
-pub drawn : (o : Outcome (List Projected)) (m : Outlined) → m ≡ outlined o → m.verdict ≡ Fine → o ≡ ok (points_of m.outline)
+pub drawn : (o : Outcome (List Projected)) (m : Outcome Outline) (q : Outline) → m ≡ outlined o → m ≡ Ok q → o ≡ Ok (points_of q)
 unfolding outlined
-drawn (ok l) m e f = ap {B = Outcome (List Projected)} ok (sym (ap (λ x. points_of x.outline) e ∙ points_outline l))
-drawn (refused r) m e f =
-    let z : Refused r ≡ Fine = sym (ap (λ x. x.verdict) e) ∙ f in let q : ◌≡◌ {A = ℕ} 0 1 = cc in absurd (omega arith)
+drawn (Ok l) m q e f = let g : outline l ≡ q = cc in ap {B = Outcome (List Projected)} Ok (sym (points_outline l) ∙ ap points_of g)
+drawn (Err r) m q e f = let z : ◌≡◌ {A = ℕ} 0 1 = cc in absurd (omega arith)
 
-pub drawn_count : (o : Outcome (List Projected)) (m : Outlined) (n : ℕ) → m ≡ outlined o → m.verdict ≡ Fine → ((l : List Projected) → o ≡ ok l → length l ≡ n) → m.outline.n ≡ n
+pub drawn_count : (o : Outcome (List Projected)) (m : Outcome Outline) (q : Outline) (n : ℕ) → m ≡ outlined o → m ≡ Ok q → ((l : List Projected) → o ≡ Ok l → length l ≡ n) → q.n ≡ n
 unfolding outlined
-drawn_count (ok l) m n e f g = ap (λ x. x.outline.n) e ∙ g l refl
-drawn_count (refused r) m n e f g =
-    let z : Refused r ≡ Fine = sym (ap (λ x. x.verdict) e) ∙ f in let q : ◌≡◌ {A = ℕ} 0 1 = cc in absurd (omega arith)
+drawn_count (Ok l) m q n e f g = let h : outline l ≡ q = cc in sym (ap (λ x. x.n) h) ∙ g l refl
+drawn_count (Err r) m q n e f g = let z : ◌≡◌ {A = ℕ} 0 1 = cc in absurd (omega arith)
 
-pub undrawn : (o : Outcome (List Projected)) (m : Outlined) (r : Refusal) → m ≡ outlined o → m.verdict ≡ Refused r → o ≡ refused r
+pub undrawn : (o : Outcome (List Projected)) (m : Outcome Outline) (r : Refusal) → m ≡ outlined o → m ≡ Err r → o ≡ Err r
 unfolding outlined
-undrawn (ok l) m r e f =
-    let z : Fine ≡ Refused r = sym (ap (λ x. x.verdict) e) ∙ f in let q : ◌≡◌ {A = ℕ} 0 1 = cc in absurd (omega arith)
-undrawn (refused x) m r e f = let z : Refused x ≡ Refused r = sym (ap (λ y. y.verdict) e) ∙ f in cc
+undrawn (Ok l) m r e f = let z : ◌≡◌ {A = ℕ} 0 1 = cc in absurd (omega arith)
+undrawn (Err x) m r e f = let g : x ≡ r = cc in ap {B = Outcome (List Projected)} Err g
 
 count_next : {A C : Type 0} (f : A → Outcome C) (acc : List C) (l : List A) (r : List C) (o : Outcome C)
-    → ((y : C) → each f (acc ++ (y ∷ [])) l ≡ ok r → length r ≡ length (acc ++ (y ∷ [])) + length l)
-    → then o (λ y. each f (acc ++ (y ∷ [])) l) ≡ ok r → length r ≡ length acc + suc (length l)
-count_next f acc l r (ok y) k e = k y e ∙ simp length-append (omega arith)
-count_next f acc l r (refused z) k e = let w : ◌≡◌ {A = ℕ} 0 1 = cc in absurd (omega arith)
+    → ((y : C) → each f (acc ++ (y ∷ [])) l ≡ Ok r → length r ≡ length (acc ++ (y ∷ [])) + length l)
+    → then o (λ y. each f (acc ++ (y ∷ [])) l) ≡ Ok r → length r ≡ length acc + suc (length l)
+count_next f acc l r (Ok y) k e = k y e ∙ simp length-append (omega arith)
+count_next f acc l r (Err z) k e = let w : ◌≡◌ {A = ℕ} 0 1 = cc in absurd (omega arith)
 
 -- as many as there were
-pub each_count : {A C : Type 0} (f : A → Outcome C) (acc : List C) (l : List A) (r : List C) → each f acc l ≡ ok r → length r ≡ length acc + length l
+pub each_count : {A C : Type 0} (f : A → Outcome C) (acc : List C) (l : List A) (r : List C) → each f acc l ≡ Ok r → length r ≡ length acc + length l
 unfolding each
 each_count f acc [] r e = let k : acc ≡ r = cc in sym (ap length k) ∙ omega arith
 each_count f acc (x ∷ l) r e = count_next f acc l r (f x) (λ y q. each_count f (acc ++ (y ∷ [])) l r q) e

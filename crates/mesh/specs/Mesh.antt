@@ -1,8 +1,6 @@
 -- The mesh of one facet: 12, 2, 34, 3, 34, 33 and 30, 33, 31, 32, in this order. Definitions only.
-use Rattle.std.specs.Prelude.{ℕ, zero, suc, ◌+◌, ◌-◌, Bool, true, not, ◌&&◌, List, [], ◌∷◌, ◌++◌, length, get_or, set, replicate, ltb, Float}
-use Rattle.refusal.specs.declared.Verdict.{Verdict}
-use Rattle.refusal.specs.declared.Verdict.TheVariants.{Fine, Refused}
-use Rattle.refusal.specs.Outcome.{Outcome, ok, refused, refuse, then, unless, each}
+use Rattle.std.specs.Prelude.{ℕ, zero, suc, ◌+◌, ◌-◌, Bool, true, not, ◌&&◌, List, [], ◌∷◌, ◌++◌, length, get_or, set, replicate, ltb, Float, Ok, Err}
+use Rattle.refusal.specs.Outcome.{Outcome, refuse, then, unless, each}
 use Rattle.lists.specs.Walks.{all}
 use Rattle.space.specs.declared.Precision.{Precision}
 use Rattle.space.specs.declared.Frame.{Frame}
@@ -20,7 +18,6 @@ use Rattle.ears.specs.declared.Found.TheVariants as F
 use Rattle.ears.specs.Places.{up_from, without}
 use Rattle.ears.specs.Ears.{turn_at, scan_of}
 use Rattle.mesh.specs.declared.Triples.{Triples}
-use Rattle.mesh.specs.declared.Meshed.{Meshed}
 
 -- ---- taking corners off
 
@@ -30,18 +27,18 @@ pub record Clipping : Type 0 where
   pub ears : List Triangle
 
 -- a straight corner is passed over, an ear gives its triangle; 31: "no ear"
-unfoldable pub clip_by : Found → Clipping → Outcome Clipping
-clip_by (F.Ear i t) s = ok (record { left = without i s.left; ears = s.ears ++ (t ∷ []) })
-clip_by (F.Straight i) s = ok (record { left = without i s.left; ears = s.ears })
-clip_by F.Nothing s = refuse 31
-clip_by (F.Refused r) s = refused r
+unfoldable pub clip_by : Outcome Found → Clipping → Outcome Clipping
+clip_by (Ok (F.Ear i t)) s = Ok (record { left = without i s.left; ears = s.ears ++ (t ∷ []) })
+clip_by (Ok (F.Straight i)) s = Ok (record { left = without i s.left; ears = s.ears })
+clip_by (Ok F.Nothing) s = refuse 31
+clip_by (Err r) s = Err r
 
 unfoldable pub clip_one : Precision → List Projected → Clipping → Outcome Clipping
 clip_one p ps s = clip_by (scan_of p ps s.left) s
 
 -- k corners, one at a time
 unfoldable pub clip_from : ℕ → Precision → List Projected → Clipping → Outcome Clipping
-clip_from zero p ps s = ok s
+clip_from zero p ps s = Ok s
 clip_from (suc k) p ps s = then (clip_one p ps s) (clip_from k p ps)
 
 -- 000: while more than three are left
@@ -54,11 +51,11 @@ abbrev pub first_three : List ℕ → Triangle
 first_three l = record { a = get_or l 0 0; b = get_or l 1 0; c = get_or l 2 0 }
 
 -- 32: "last triangle"
-unfoldable pub end_by : Turn → List Triangle → Triangle → Outcome (List Triangle)
-end_by T.Positive l w = ok (l ++ (w ∷ []))
-end_by T.Negative l w = refuse 32
-end_by T.Zero l w = refuse 32
-end_by (T.Refused r) l w = refused r
+unfoldable pub end_by : Outcome Turn → List Triangle → Triangle → Outcome (List Triangle)
+end_by (Ok T.Positive) l w = Ok (l ++ (w ∷ []))
+end_by (Ok T.Negative) l w = refuse 32
+end_by (Ok T.Zero) l w = refuse 32
+end_by (Err r) l w = Err r
 
 unfoldable pub end_of : Precision → List Projected → Clipping → Outcome (List Triangle)
 end_of p ps s = end_by (turn_at p ps (first_three s.left)) s.ears (first_three s.left)
@@ -72,9 +69,9 @@ unfoldable pub clipped_of : Precision → List Projected → Outcome (List Trian
 clipped_of p ps = then (clip_all p ps (begun (length ps))) (end_of p ps)
 
 -- the rest, where a verdict is fine
-unfoldable pub given : {A : Type 0} → Verdict → Outcome A → Outcome A
-given Fine o = o
-given (Refused r) o = refused r
+unfoldable pub given : {A : Type 0} → Outcome Unit → Outcome A → Outcome A
+given (Ok tt) o = o
+given (Err r) o = Err r
 
 unfoldable pub triangles_of : Precision → List Projected → Outcome (List Triangle)
 triangles_of p ps = given (simple_of p ps) (clipped_of p ps)
@@ -114,20 +111,20 @@ padded l = l ++ replicate (126 - length l) blank
 abbrev pub triples : List Triangle → Triples
 triples l = record { at = padded l; n = length l }
 
--- "it answers triples of corner places"; none at a refusal
-unfoldable pub meshed : Outcome (List Triangle) → Meshed
-meshed (ok l) = record { verdict = Fine; triples = triples l }
-meshed (refused r) = record { verdict = Refused r; triples = triples [] }
+-- "it answers triples of corner places"
+unfoldable pub meshed : Outcome (List Triangle) → Outcome Triples
+meshed (Ok l) = Ok (triples l)
+meshed (Err r) = Err r
 
--- the answer with one triple more, and the last triangle before it is known to be Positive
-abbrev pub pushed : Triples → Triangle → Meshed
-pushed t w = record { verdict = Fine; triples = record { at = set t.at t.n w; n = t.n + 1 } }
+-- the triples with one more, and the last triangle before it is known to be Positive
+abbrev pub pushed : Triples → Triangle → Triples
+pushed t w = record { at = set t.at t.n w; n = t.n + 1 }
 
-unfoldable pub last_by : Turn → Triples → Triangle → Meshed
-last_by T.Positive t w = pushed t w
-last_by T.Negative t w = meshed (refuse 32)
-last_by T.Zero t w = meshed (refuse 32)
-last_by (T.Refused r) t w = meshed (refused r)
+unfoldable pub last_by : Outcome Turn → Triples → Triangle → Outcome Triples
+last_by (Ok T.Positive) t w = Ok (pushed t w)
+last_by (Ok T.Negative) t w = refuse 32
+last_by (Ok T.Zero) t w = refuse 32
+last_by (Err r) t w = Err r
 
-unfoldable pub last_in : Precision → List Projected → List ℕ → Triples → Meshed
+unfoldable pub last_in : Precision → List Projected → List ℕ → Triples → Outcome Triples
 last_in p ps l t = last_by (turn_at p ps (first_three l)) t (first_three l)

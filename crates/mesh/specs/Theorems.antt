@@ -1,12 +1,10 @@
 -- What holds of every answer of the mesh: its triangles are of three different corners and turn Positive, and how many there are.
-use Rattle.std.specs.Prelude.{◌≡◌, refl, not, List, [], ◌∷◌, ◌++◌, ℕ, zero, suc, ◌+◌, ◌-◌, ◌%◌, ◌≤◌, ◌<◌, length, get_or, ltb}
+use Rattle.std.specs.Prelude.{◌≡◌, refl, not, List, [], ◌∷◌, ◌++◌, ℕ, zero, suc, ◌+◌, ◌-◌, ◌%◌, ◌≤◌, ◌<◌, length, get_or, ltb, Ok, Err}
 use Rattle.std.proofs.Common.{sym, ap, ◌∙◌, subst, arith, mod-lt, mod-eq_of_lt, length-append, ltb-false}
 use Rattle.std.proofs.Math.Path.{subst⁻¹}
 use Rattle.std.proofs.Math.Decide.{dec_lt}
 use Rattle.std.proofs.Math.Nat.{mod_self, add-mod_right}
-use Rattle.refusal.specs.declared.Verdict.{Verdict}
-use Rattle.refusal.specs.declared.Verdict.TheVariants.{Fine, Refused}
-use Rattle.refusal.specs.Outcome.{Outcome, ok, refused, then, each}
+use Rattle.refusal.specs.Outcome.{Outcome, then, each}
 use Rattle.refusal.specs.Laws.{unless_ok}
 use Rattle.space.specs.declared.Precision.{Precision}
 use Rattle.space.specs.Shapes.{Face}
@@ -39,18 +37,18 @@ pub record Fair (p : Precision) (ps : List Projected) (w : Triangle) : Type 0 wh
   pub ab : w.a ≡ w.b → ⊥
   pub bc : w.b ≡ w.c → ⊥
   pub ca : w.c ≡ w.a → ⊥
-  pub positive : turn_at p ps w ≡ T.Positive
+  pub positive : turn_at p ps w ≡ Ok T.Positive
 
 -- a straight corner that is passed over
-unfoldable pub straight_in : Found → ℕ
-straight_in (F.Ear i t) = 0
-straight_in (F.Straight i) = 1
-straight_in F.Nothing = 0
-straight_in (F.Refused r) = 0
+unfoldable pub straight_in : Outcome Found → ℕ
+straight_in (Ok (F.Ear i t)) = 0
+straight_in (Ok (F.Straight i)) = 1
+straight_in (Ok F.Nothing) = 0
+straight_in (Err r) = 0
 
 unfoldable pub afterwards : Outcome Clipping → (Clipping → ℕ) → ℕ
-afterwards (ok s) f = f s
-afterwards (refused r) f = 0
+afterwards (Ok s) f = f s
+afterwards (Err r) f = 0
 
 -- the straight corners that are passed over in k turns, and in all
 unfoldable pub straights_from : ℕ → Precision → List Projected → Clipping → ℕ
@@ -148,7 +146,7 @@ record Sound (p : Precision) (ps : List Projected) (s : Clipping) : Type 0 where
   fair : Each (Fair p ps) s.ears
 
 fair_window : (p : Precision) (ps : List Projected) (l : List ℕ) (i : ℕ) → i < length l → 3 ≤ length l → ((j : ℕ) → get_or l j 0 < length ps) → Rising l
-    → turn_at p ps (window_at l i) ≡ T.Positive → Fair p ps (window_at l i)
+    → turn_at p ps (window_at l i) ≡ Ok T.Positive → Fair p ps (window_at l i)
 unfolding window_at
 fair_window p ps l i h g low R t =
     let A = neighbours (length l) i h g in
@@ -165,7 +163,7 @@ fair_window p ps l i h g low R t =
       positive = t;
     }
 
-fair_three : (p : Precision) (ps : List Projected) (l : List ℕ) → 3 ≤ length l → ((j : ℕ) → get_or l j 0 < length ps) → Rising l → turn_at p ps (first_three l) ≡ T.Positive → Fair p ps (first_three l)
+fair_three : (p : Precision) (ps : List Projected) (l : List ℕ) → 3 ≤ length l → ((j : ℕ) → get_or l j 0 < length ps) → Rising l → turn_at p ps (first_three l) ≡ Ok T.Positive → Fair p ps (first_three l)
 fair_three p ps l g low R t =
     let a = R 0 1 (omega arith) (omega arith) in
     let b = R 1 2 (omega arith) (omega arith) in
@@ -173,34 +171,34 @@ fair_three p ps l g low R t =
 
 -- ---- one turn
 
-record Stepped (p : Precision) (ps : List Projected) (s : Clipping) (x : Found) (r : Clipping) : Type 0 where
+record Stepped (p : Precision) (ps : List Projected) (s : Clipping) (x : Outcome Found) (r : Clipping) : Type 0 where
   sound : Sound p ps r
   shorter : length r.left + 1 ≡ length s.left
   more : length r.ears + straight_in x ≡ length s.ears + 1
 
-stepped : (p : Precision) (ps : List Projected) (s : Clipping) (x : Found) (r : Clipping) → 3 ≤ length s.left → Sound p ps s → scan_of p ps s.left ≡ x → clip_by x s ≡ ok r → Stepped p ps s x r
+stepped : (p : Precision) (ps : List Projected) (s : Clipping) (x : Outcome Found) (r : Clipping) → 3 ≤ length s.left → Sound p ps s → scan_of p ps s.left ≡ x → clip_by x s ≡ Ok r → Stepped p ps s x r
 unfolding clip_by straight_in
-stepped p ps s (F.Ear i t) r g S f e =
+stepped p ps s (Ok (F.Ear i t)) r g S f e =
     let E = eared p ps s.left i t f in
     let k : record { left = without i s.left; ears = s.ears ++ (t ∷ []) } ≡ r = cc in
     let w : Fair p ps t = subst⁻¹ (Fair p ps) E.window (fair_window p ps s.left i E.place g S.low S.rising (sym (ap (turn_at p ps) E.window) ∙ E.turn)) in
-    subst (Stepped p ps s (F.Ear i t)) k
+    subst (Stepped p ps s (Ok (F.Ear i t))) k
     (record {
       sound = record { low = low_without (length ps) i s.left S.low; rising = rising_without i s.left E.place S.rising; fair = each_snoc (Fair p ps) s.ears t S.fair w };
       shorter = omega (arith, length_without i s.left E.place);
       more = simp length-append (omega arith);
     })
-stepped p ps s (F.Straight i) r g S f e =
+stepped p ps s (Ok (F.Straight i)) r g S f e =
     let h = straight_place p ps s.left i f in
     let k : record { left = without i s.left; ears = s.ears } ≡ r = cc in
-    subst (Stepped p ps s (F.Straight i)) k
+    subst (Stepped p ps s (Ok (F.Straight i))) k
     (record {
       sound = record { low = low_without (length ps) i s.left S.low; rising = rising_without i s.left h S.rising; fair = S.fair };
       shorter = omega (arith, length_without i s.left h);
       more = refl;
     })
-stepped p ps s F.Nothing r g S f e = let z : ◌≡◌ {A = ℕ} 0 1 = cc in absurd (omega arith)
-stepped p ps s (F.Refused q) r g S f e = let z : ◌≡◌ {A = ℕ} 0 1 = cc in absurd (omega arith)
+stepped p ps s (Ok F.Nothing) r g S f e = let z : ◌≡◌ {A = ℕ} 0 1 = cc in absurd (omega arith)
+stepped p ps s (Err q) r g S f e = let z : ◌≡◌ {A = ℕ} 0 1 = cc in absurd (omega arith)
 
 -- ---- all turns
 
@@ -210,16 +208,16 @@ record Ended (p : Precision) (ps : List Projected) (k : ℕ) (s : Clipping) (n :
   more : length r.ears + n ≡ length s.ears + k
 
 ended_next : (p : Precision) (ps : List Projected) (k : ℕ) (s r : Clipping) (o : Outcome Clipping) → o ≡ clip_one p ps s → suc k + 3 ≤ length s.left → Sound p ps s
-    → ((q : Clipping) → k + 3 ≤ length q.left → Sound p ps q → clip_from k p ps q ≡ ok r → Ended p ps k q (straights_from k p ps q) r)
-    → then o (clip_from k p ps) ≡ ok r → Ended p ps (suc k) s (straight_in (scan_of p ps s.left) + afterwards o (straights_from k p ps)) r
+    → ((q : Clipping) → k + 3 ≤ length q.left → Sound p ps q → clip_from k p ps q ≡ Ok r → Ended p ps k q (straights_from k p ps q) r)
+    → then o (clip_from k p ps) ≡ Ok r → Ended p ps (suc k) s (straight_in (scan_of p ps s.left) + afterwards o (straights_from k p ps)) r
 unfolding clip_one afterwards
-ended_next p ps k s r (ok q) f g S next e =
+ended_next p ps k s r (Ok q) f g S next e =
     let T = stepped p ps s (scan_of p ps s.left) q (omega arith) S refl (sym f) in
     let N = next q (omega (arith, T.shorter)) T.sound e in
     record { sound = N.sound; shorter = omega (arith, T.shorter, N.shorter); more = omega (arith, T.more, N.more) }
-ended_next p ps k s r (refused x) f g S next e = let z : ◌≡◌ {A = ℕ} 0 1 = cc in absurd (omega arith)
+ended_next p ps k s r (Err x) f g S next e = let z : ◌≡◌ {A = ℕ} 0 1 = cc in absurd (omega arith)
 
-ended : (p : Precision) (ps : List Projected) (k : ℕ) (s r : Clipping) → k + 3 ≤ length s.left → Sound p ps s → clip_from k p ps s ≡ ok r → Ended p ps k s (straights_from k p ps s) r
+ended : (p : Precision) (ps : List Projected) (k : ℕ) (s r : Clipping) → k + 3 ≤ length s.left → Sound p ps s → clip_from k p ps s ≡ Ok r → Ended p ps k s (straights_from k p ps s) r
 unfolding clip_from straights_from
 ended p ps zero s r g S e =
     let k : s ≡ r = cc in
@@ -233,37 +231,37 @@ pub record Meshing (p : Precision) (ps : List Projected) (ts : List Triangle) : 
   pub count : length ts + straight_corners p ps + 2 ≡ length ps
   pub most : length ts ≤ length ps - 2
 
-meshing_end : (p : Precision) (ps : List Projected) (s : Clipping) (ts : List Triangle) (t : Turn) → turn_at p ps (first_three s.left) ≡ t → 3 ≤ length s.left → Sound p ps s
-    → end_by t s.ears (first_three s.left) ≡ ok ts → Each (Fair p ps) ts × (length ts ≡ length s.ears + 1)
+meshing_end : (p : Precision) (ps : List Projected) (s : Clipping) (ts : List Triangle) (t : Outcome Turn) → turn_at p ps (first_three s.left) ≡ t → 3 ≤ length s.left → Sound p ps s
+    → end_by t s.ears (first_three s.left) ≡ Ok ts → Each (Fair p ps) ts × (length ts ≡ length s.ears + 1)
 unfolding end_by
-meshing_end p ps s ts T.Positive f g S e =
+meshing_end p ps s ts (Ok T.Positive) f g S e =
     let k : s.ears ++ (first_three s.left ∷ []) ≡ ts = cc in
     subst (λ l. Each (Fair p ps) l × (length l ≡ length s.ears + 1)) k
     (each_snoc (Fair p ps) s.ears (first_three s.left) S.fair (fair_three p ps s.left g S.low S.rising f), length-append s.ears (first_three s.left ∷ []))
-meshing_end p ps s ts T.Negative f g S e = let z : ◌≡◌ {A = ℕ} 0 1 = cc in absurd (omega arith)
-meshing_end p ps s ts T.Zero f g S e = let z : ◌≡◌ {A = ℕ} 0 1 = cc in absurd (omega arith)
-meshing_end p ps s ts (T.Refused r) f g S e = let z : ◌≡◌ {A = ℕ} 0 1 = cc in absurd (omega arith)
+meshing_end p ps s ts (Ok T.Negative) f g S e = let z : ◌≡◌ {A = ℕ} 0 1 = cc in absurd (omega arith)
+meshing_end p ps s ts (Ok T.Zero) f g S e = let z : ◌≡◌ {A = ℕ} 0 1 = cc in absurd (omega arith)
+meshing_end p ps s ts (Err r) f g S e = let z : ◌≡◌ {A = ℕ} 0 1 = cc in absurd (omega arith)
 
-meshing_by : (p : Precision) (ps : List Projected) (ts : List Triangle) (o : Outcome Clipping) → o ≡ clip_all p ps (begun (length ps)) → 3 ≤ length ps → then o (end_of p ps) ≡ ok ts → Meshing p ps ts
+meshing_by : (p : Precision) (ps : List Projected) (ts : List Triangle) (o : Outcome Clipping) → o ≡ clip_all p ps (begun (length ps)) → 3 ≤ length ps → then o (end_of p ps) ≡ Ok ts → Meshing p ps ts
 unfolding clip_all end_of straight_corners
-meshing_by p ps ts (ok s) f g e =
+meshing_by p ps ts (Ok s) f g e =
     let n = length_up 0 (length ps) in
-    let c : clip_from (length ps - 3) p ps (begun (length ps)) ≡ ok s = sym (ap (λ m. clip_from (m - 3) p ps (begun (length ps))) n) ∙ sym f in
+    let c : clip_from (length ps - 3) p ps (begun (length ps)) ≡ Ok s = sym (ap (λ m. clip_from (m - 3) p ps (begun (length ps))) n) ∙ sym f in
     let h : length ps - 3 + 3 ≤ length (up_from 0 (length ps)) = omega arith in
     let N = ended p ps (length ps - 3) (begun (length ps)) s h (record { low = λ j. low_up (length ps) j (omega arith); rising = rising_up (length ps); fair = tt }) c in
     let k : 3 ≤ length s.left = omega (arith, N.shorter) in
     let E = meshing_end p ps s ts (turn_at p ps (first_three s.left)) refl k N.sound e in
     let m : length ts + straights_from (length ps - 3) p ps (begun (length ps)) + 2 ≡ length ps = omega (arith, N.more, E.1) in
     record { fair = E.0; count = m; most = omega arith }
-meshing_by p ps ts (refused r) f g e = let z : ◌≡◌ {A = ℕ} 0 1 = cc in absurd (omega arith)
+meshing_by p ps ts (Err r) f g e = let z : ◌≡◌ {A = ℕ} 0 1 = cc in absurd (omega arith)
 
-given_ok : {A : Type 0} (v : Verdict) (o : Outcome A) (a : A) → given v o ≡ ok a → o ≡ ok a
+given_ok : {A : Type 0} (v : Outcome Unit) (o : Outcome A) (a : A) → given v o ≡ Ok a → o ≡ Ok a
 unfolding given
-given_ok Fine o a e = e
-given_ok (Refused r) o a e = let z : ◌≡◌ {A = ℕ} 0 1 = cc in absurd (omega arith)
+given_ok (Ok tt) o a e = e
+given_ok (Err r) o a e = let z : ◌≡◌ {A = ℕ} 0 1 = cc in absurd (omega arith)
 
 -- Each triangle has three different places below the number of corners and is certified Positive. There are two less than corners, less one for each straight corner that was passed over.
-pub triangles_mesh : (p : Precision) (ps : List Projected) (ts : List Triangle) → 3 ≤ length ps → triangles_of p ps ≡ ok ts → Meshing p ps ts
+pub triangles_mesh : (p : Precision) (ps : List Projected) (ts : List Triangle) → 3 ≤ length ps → triangles_of p ps ≡ Ok ts → Meshing p ps ts
 unfolding triangles_of clipped_of
 triangles_mesh p ps ts g e = meshing_by p ps ts (clip_all p ps (begun (length ps))) refl g (given_ok (simple_of p ps) (clipped_of p ps) ts e)
 
@@ -272,17 +270,17 @@ triangles_mesh p ps ts g e = meshing_by p ps ts (clip_all p ps (begun (length ps
 -- the corners in the coordinates of the plane, as many as there are, and what holds of their triangles
 pub record FacetMesh (p : Precision) (f : Face) (ts : List Triangle) : Type 0 where
   pub shadows : List Projected
-  pub drawn : each (projected_of f.plane) [] f.points ≡ ok shadows
+  pub drawn : each (projected_of f.plane) [] f.points ≡ Ok shadows
   pub many : length shadows ≡ length f.points
   pub mesh : Meshing p shadows ts
 
-facet_by : (p : Precision) (f : Face) (ts : List Triangle) (o : Outcome (List Projected)) → o ≡ each (projected_of f.plane) [] f.points → 3 ≤ length f.points → then o (triangles_of p) ≡ ok ts → FacetMesh p f ts
-facet_by p f ts (ok ps) q g e =
+facet_by : (p : Precision) (f : Face) (ts : List Triangle) (o : Outcome (List Projected)) → o ≡ each (projected_of f.plane) [] f.points → 3 ≤ length f.points → then o (triangles_of p) ≡ Ok ts → FacetMesh p f ts
+facet_by p f ts (Ok ps) q g e =
     let n : length ps ≡ length f.points = each_count (projected_of f.plane) [] f.points ps (sym q) ∙ omega arith in
     record { shadows = ps; drawn = sym q; many = n; mesh = triangles_mesh p ps ts (omega arith) e }
-facet_by p f ts (refused r) q g e = let z : ◌≡◌ {A = ℕ} 0 1 = cc in absurd (omega arith)
+facet_by p f ts (Err r) q g e = let z : ◌≡◌ {A = ℕ} 0 1 = cc in absurd (omega arith)
 
-pub facet_mesh : (p : Precision) (f : Face) (ts : List Triangle) → mesh_of p f ≡ ok ts → FacetMesh p f ts
+pub facet_mesh : (p : Precision) (f : Face) (ts : List Triangle) → mesh_of p f ≡ Ok ts → FacetMesh p f ts
 unfolding mesh_of mesh_on enough_on
 facet_mesh p f ts e =
     let a = unless_ok (ltb 128 (length f.points)) 12 _ ts e in

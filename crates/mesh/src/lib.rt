@@ -2,7 +2,6 @@
 
 // The mesh of one facet: triples of corner places, each turning Positive.
 ghost use Rattle.std.specs.Prelude.{◌≡◌, true, [], ◌/◌, ◌<◌, ◌≤◌, length};
-ghost use Rattle.refusal.specs.Outcome.{refused};
 ghost use Rattle.lists.specs.Walks.{all};
 ghost use Rattle.space.specs.Vector.{finite_point};
 ghost use Rattle.outline.specs.Project.{points_of, facet_of};
@@ -12,7 +11,7 @@ ghost use Rattle.mesh.specs.Mesh.{triples, meshed, pushed, last_by, last_in, cli
 
 use ears::{Active, Found, Triangle};
 use outline::Outline;
-use refusal::{Refusal, Verdict};
+use refusal::Refusal;
 use space::{Frame, Plane, Precision};
 use turns::Turn;
 
@@ -20,12 +19,6 @@ use turns::Turn;
 pub struct Triples {
     pub at: [Triangle; 126],
     pub n: usize,
-}
-
-#[derive(Clone, Copy)]
-pub struct Meshed {
-    pub verdict: Verdict,
-    pub triples: Triples,
 }
 
 fn none() -> Triples
@@ -37,17 +30,8 @@ fn none() -> Triples
     }
 }
 
-fn refused(r: Refusal) -> Meshed
-    ensures { result ≡ meshed (refused r) }
-{
-    Meshed {
-        verdict: Verdict::Refused(r),
-        triples: none(),
-    }
-}
-
-// The triples with one more, as the answer.
-fn ended(out: Triples, w: Triangle) -> Meshed
+// The triples with one more.
+fn pushed(out: Triples, w: Triangle) -> Triples
     requires { out.n < 126 }
     ensures { result ≡ pushed out w }
 {
@@ -55,80 +39,64 @@ fn ended(out: Triples, w: Triangle) -> Meshed
     let mut triples = out;
     triples.at[n] = w;
     triples.n = n + 1;
-    Meshed {
-        verdict: Verdict::Fine,
-        triples,
-    }
+    triples
 }
 
 // The last triangle has to turn Positive: 33, 32.
-fn last_by(s: Turn, out: Triples, w: Triangle) -> Meshed
+#[tactic(auto, unfolding(crate::specs::Mesh::last_by))]
+fn last_by(s: Result<Turn, Refusal>, out: Triples, w: Triangle) -> Result<Triples, Refusal>
     requires { out.n < 126 }
     ensures { result ≡ last_by s out w }
 {
-    match s {
-        Turn::Positive => ended(out, w),
-        Turn::Negative => refused(refusal::refuse(32)),
-        Turn::Zero => refused(refusal::refuse(32)),
-        Turn::Refused(r) => refused(r),
+    match s? {
+        Turn::Positive => Ok(pushed(out, w)),
+        Turn::Negative => Err(refusal::refuse(32)),
+        Turn::Zero => Err(refusal::refuse(32)),
     }
 }
 
-fn last(p: Precision, o: Outline, active: Active, out: Triples) -> Meshed
+fn last(p: Precision, o: Outline, active: Active, out: Triples) -> Result<Triples, Refusal>
     requires { Ready o active × (3 ≤ active.n) × (out.n < 126) }
     ensures { result ≡ last_in p (points_of o) (places_of active) out }
 {
-    let ia = active.at[0];
-    let ib = active.at[1];
-    let ic = active.at[2];
-    let turn = turns::orientation(p, o.at[ia], o.at[ib], o.at[ic]);
-    last_by(
-        turn,
-        out,
-        Triangle {
-            a: ia,
-            b: ib,
-            c: ic,
-        },
-    )
+    let w = Triangle {
+        a: active.at[0],
+        b: active.at[1],
+        c: active.at[2],
+    };
+    last_by(ears::turn_at(p, o, w), out, w)
 }
 
 // Ears and straight corners are taken off until three corners are left: 33, 31, 32.
-fn clip(p: Precision, o: Outline) -> Meshed
+fn clip(p: Precision, o: Outline) -> Result<Triples, Refusal>
     requires { (3 ≤ o.n) × (o.n ≤ 128) }
     ensures { result ≡ meshed (clipped_of p (points_of o)) }
 {
     let mut active = ears::all_places(o.n);
     let mut out = none();
-    let mut m = 0;
+    // How many turns it takes is known only by the corners that are left.
     while 3 < active.n {
-        let found = ears::scan(p, o, active);
-        match found {
+        match ears::scan(p, o, active)? {
             Found::Ear(i, t) => {
-                out.at[m] = t;
-                m += 1;
+                out = pushed(out, t);
                 active = ears::remove(active, i);
             }
             Found::Straight(i) => {
                 active = ears::remove(active, i);
             }
-            Found::Nothing => return refused(refusal::refuse(31)),
-            Found::Refused(r) => return refused(r),
+            Found::Nothing => return Err(refusal::refuse(31)),
         }
     }
-    out.n = m;
     last(p, o, active, out)
 }
 
-pub fn triangles(p: Precision, o: Outline) -> Meshed
+#[tactic(auto, unfolding(crate::specs::Mesh::triangles_of, crate::specs::Mesh::given, crate::specs::Mesh::meshed))]
+pub fn triangles(p: Precision, o: Outline) -> Result<Triples, Refusal>
     requires { (3 ≤ o.n) × (o.n ≤ 128) }
     ensures { result ≡ meshed (triangles_of p (points_of o)) }
 {
-    let v = simple::simple(p, o);
-    match v {
-        Verdict::Fine => clip(p, o),
-        Verdict::Refused(r) => refused(r),
-    }
+    simple::simple(p, o)?;
+    clip(p, o)
 }
 
 fn is_finite_frame(f: Frame) -> bool
@@ -145,14 +113,13 @@ fn are_finite(s: &[f64]) -> bool
 {
     let n = s.len() / 3;
     let mut fair = true;
-    let mut i = 0;
-    while i < n {
+    for i in 0..n {
         fair = fair & space::is_finite_point(outline::corner(s, i));
-        i += 1;
     }
     fair
 }
 
+#[tactic(auto, unfolding(crate::specs::Mesh::fair_facet))]
 fn is_fair(p: Precision, plane: Plane, s: &[f64]) -> bool
     ensures { result ≡ fair_facet p (facet plane s.now) }
 {
@@ -161,42 +128,35 @@ fn is_fair(p: Precision, plane: Plane, s: &[f64]) -> bool
 }
 
 // A facet whose plane is handed: 3, 34, then the triangles.
-fn enough_on(p: Precision, plane: Plane, s: &[f64]) -> Meshed
+fn enough_on(p: Precision, plane: Plane, s: &[f64]) -> Result<Triples, Refusal>
     requires { length s.now / 3 ≤ 128 }
     ensures { result ≡ meshed (enough_on p (facet plane s.now)) }
 {
     if s.len() / 3 < 3 {
-        return refused(refusal::refuse(3));
+        return Err(refusal::refuse(3));
     }
-    let made = outline::outline_of(plane, s);
-    let v = made.verdict;
-    let o = made.outline;
-    match v {
-        Verdict::Fine => triangles(p, o),
-        Verdict::Refused(r) => refused(r),
-    }
+    let o = outline::outline_of(plane, s)?;
+    triangles(p, o)
 }
 
-fn mesh_on(p: Precision, plane: Plane, s: &[f64]) -> Meshed
+#[tactic(auto, unfolding(crate::specs::Mesh::mesh_on, crate::specs::Mesh::given, crate::specs::Mesh::meshed))]
+fn mesh_on(p: Precision, plane: Plane, s: &[f64]) -> Result<Triples, Refusal>
     requires { length s.now / 3 ≤ 128 }
     ensures { result ≡ meshed (mesh_on p (facet plane s.now)) }
 {
-    let v = outline::plane_basis(plane);
-    match v {
-        Verdict::Fine => enough_on(p, plane, s),
-        Verdict::Refused(r) => refused(r),
-    }
+    outline::plane_basis(plane)?;
+    enough_on(p, plane, s)
 }
 
 // The corners of the facet lie in s, three floats each.
-pub fn mesh(p: Precision, plane: Plane, s: &[f64]) -> Meshed
+pub fn mesh(p: Precision, plane: Plane, s: &[f64]) -> Result<Triples, Refusal>
     ensures { result ≡ meshed (mesh_of p (facet plane s.now)) }
 {
     if 128 < s.len() / 3 {
-        return refused(refusal::refuse(12));
+        return Err(refusal::refuse(12));
     }
     if !is_fair(p, plane, s) {
-        return refused(refusal::refuse(2));
+        return Err(refusal::refuse(2));
     }
     mesh_on(p, plane, s)
 }

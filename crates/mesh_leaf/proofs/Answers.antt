@@ -1,26 +1,26 @@
 -- What the call tells, in the words of the code.
+use Rattle.std.specs.Prelude.{Ok, Err}
 use mathlib.Core.Path.{◌≡◌, refl, sym, ap, ◌∙◌, subst}
 use mathlib.Core.Bool.{Bool, true, false, not, ◌&&◌}
 use mathlib.Core.List.{List, [], ◌∷◌}
 use Prim.Native.Nat.{ℕ, ◌+◌, ◌≤◌}
 use native.Mathlib.Omega.{arith}
 use native.Mathlib.Numerals.{add-three}
-use lib.ListN.{length, set}
+use lib.ListN.{length}
 use lib.Seq.{sets, take_at}
 use lib.Dec.{leb, ltb}
 use lib.Ieee.{Float}
 use borrow.Author.Tests.{leb-true, ltb-false}
-use Rattle.refusal.specs.Outcome.{Outcome, ok, refused, unless, number_of}
+use Rattle.refusal.specs.Outcome.{Outcome, unless, number_of}
 use Rattle.refusal.specs.Tests.{and_true}
 use Rattle.space.specs.declared.Plane.{Plane}
 use Rattle.space.specs.declared.Precision.{Precision}
 use Rattle.space.specs.Shapes.{Face}
 use Rattle.ears.specs.declared.Triangle.{Triangle}
-use Rattle.mesh.specs.declared.Meshed.{Meshed}
+use Rattle.mesh.specs.declared.Triples.{Triples}
 use Rattle.mesh.specs.Mesh.{facet, mesh_of, fair_facet, mesh_on, triples, meshed}
 use Rattle.mesh.specs.Theorems.{facet_mesh}
-use Rattle.lent.specs.Lent.{number_by, where_fine}
-use Rattle.mesh_leaf.specs.Drawing.{triangles_in, places, places_told, count_told, Drawn, mesh_fits, mesh_lent}
+use Rattle.mesh_leaf.specs.Drawing.{triangles_in, places, places_told, count_told, Few, places_by, count_by, Drawn, mesh_fits, mesh_lent}
 
 -- one triangle, and then others
 pub places_next : (s : List ℕ) (o : ℕ) (w : Triangle) (l : List Triangle) → sets s o (places (w ∷ l)) ≡ sets (sets s o (w.a ∷ w.b ∷ w.c ∷ [])) (o + 3) (places l)
@@ -36,23 +36,23 @@ triples_are l = take_at l _ _ refl
 
 -- ---- at most 126 triangles
 
-few_corners : (p : Precision) (f : Face) (l : List Triangle) → mesh_of p f ≡ ok l → length f.points ≤ 128
+few_corners : (p : Precision) (f : Face) (l : List Triangle) → mesh_of p f ≡ Ok l → length f.points ≤ 128
 unfolding mesh_of
 few_corners p f l e = by (ltb 128 (length f.points)) refl e
   where
-    by : (b : Bool) → ltb 128 (length f.points) ≡ b → unless b 12 (unless (not (fair_facet p f)) 2 (mesh_on p f)) ≡ ok l → length f.points ≤ 128
+    by : (b : Bool) → ltb 128 (length f.points) ≡ b → unless b 12 (unless (not (fair_facet p f)) 2 (mesh_on p f)) ≡ Ok l → length f.points ≤ 128
     by true h q = let z : ◌≡◌ {A = ℕ} 0 1 = cc in absurd (omega arith)
     by false h q = ltb-false 128 (length f.points) h
 
-few_by : (p : Precision) (f : Face) (o : Outcome (List Triangle)) → mesh_of p f ≡ o → (meshed o).triples.n ≤ 126
+few_by : (p : Precision) (f : Face) (o : Outcome (List Triangle)) → mesh_of p f ≡ o → Few (meshed o)
 unfolding meshed
-few_by p f (ok l) e =
+few_by p f (Ok l) e =
     let m = facet_mesh p f l e in
     omega (arith, few_corners p f l e, m.many, m.mesh.most)
-few_by p f (refused r) e = omega arith
+few_by p f (Err r) e = tt
 
-pub few_triangles : (p : Precision) (f : Face) (m : Meshed) → m ≡ meshed (mesh_of p f) → m.triples.n ≤ 126
-few_triangles p f m e = rw e (few_by p f (mesh_of p f) refl)
+pub few_triangles : (p : Precision) (f : Face) (m : Outcome Triples) → m ≡ meshed (mesh_of p f) → Few m
+few_triangles p f m e = subst Few (sym e) (few_by p f (mesh_of p f) refl)
 
 -- ---- the answer
 
@@ -60,18 +60,18 @@ drawn_short : (o : Outcome (List Triangle)) (d n : List ℕ) → Drawn (unless (
 unfolding number_of places_told count_told
 drawn_short o d n = record { number = refl; drawn = refl; count = refl }
 
-drawn_made : (o : Outcome (List Triangle)) (m : Meshed) (r : ℕ) (d n d' n' : List ℕ) → m ≡ meshed o → r ≡ number_by m.verdict →
-    d' ≡ where_fine m.verdict (sets d 0 (places (triangles_in m.triples))) d → n' ≡ where_fine m.verdict (set n 0 m.triples.n) n → Drawn o r d n d' n'
-unfolding meshed number_by where_fine number_of places_told count_told
-drawn_made (ok l) m r d n d' n' e a b c = record {
-  number = a ∙ ap (λ x. number_by x.verdict) e;
-  drawn = b ∙ ap (λ x. where_fine x.verdict (sets d 0 (places (triangles_in x.triples))) d) e ∙ ap (λ x. sets d 0 (places x)) (triples_are l);
-  count = c ∙ ap (λ x. where_fine x.verdict (set n 0 x.triples.n) n) e;
+drawn_made : (o : Outcome (List Triangle)) (m : Outcome Triples) (r : ℕ) (d n d' n' : List ℕ) → m ≡ meshed o → r ≡ number_of m →
+    d' ≡ places_by m d → n' ≡ count_by m n → Drawn o r d n d' n'
+unfolding meshed number_of places_by count_by places_told count_told
+drawn_made (Ok l) m r d n d' n' e a b c = record {
+  number = a ∙ ap number_of e;
+  drawn = b ∙ ap (λ x. places_by x d) e ∙ ap (λ x. sets d 0 (places x)) (triples_are l);
+  count = c ∙ ap (λ x. count_by x n) e;
 }
-drawn_made (refused f) m r d n d' n' e a b c = record {
-  number = a ∙ ap (λ x. number_by x.verdict) e;
-  drawn = b ∙ ap (λ x. where_fine x.verdict (sets d 0 (places (triangles_in x.triples))) d) e;
-  count = c ∙ ap (λ x. where_fine x.verdict (set n 0 x.triples.n) n) e;
+drawn_made (Err f) m r d n d' n' e a b c = record {
+  number = a ∙ ap number_of e;
+  drawn = b ∙ ap (λ x. places_by x d) e;
+  count = c ∙ ap (λ x. count_by x n) e;
 }
 
 pub mesh_places : (w d n : ℕ) (f : Bool) → f ≡ mesh_fits w d n → f ≡ true → (378 ≤ d) × (1 ≤ n)
@@ -85,8 +85,8 @@ module _ (p : Precision) (w : Plane) (s : List Float) (d n : List ℕ) (f g : Bo
   unfolding mesh_lent
   mesh_short e = subst (λ b. Drawn (unless (not b) 64 (mesh_of p (facet w s))) 64 d n d n) (sym e ∙ fits) (drawn_short (mesh_of p (facet w s)) d n)
 
-  pub mesh_done : (v : Plane) (m : Meshed) (r : ℕ) (d' n' : List ℕ) → f ≡ true → v ≡ w → m ≡ meshed (mesh_of p (facet v s)) → r ≡ number_by m.verdict →
-      d' ≡ where_fine m.verdict (sets d 0 (places (triangles_in m.triples))) d → n' ≡ where_fine m.verdict (set n 0 m.triples.n) n → Drawn (mesh_lent g p w s) r d n d' n'
+  pub mesh_done : (v : Plane) (m : Outcome Triples) (r : ℕ) (d' n' : List ℕ) → f ≡ true → v ≡ w → m ≡ meshed (mesh_of p (facet v s)) → r ≡ number_of m →
+      d' ≡ places_by m d → n' ≡ count_by m n → Drawn (mesh_lent g p w s) r d n d' n'
   unfolding mesh_lent
   mesh_done v m r d' n' e h q a b c =
       let is = q ∙ ap (λ x. meshed (mesh_of p (facet x s))) h in

@@ -1,7 +1,7 @@
 -- What a call from outside has to lend to the mesh, and how its answer is told: 64 where a slice is too short. Definitions only.
-use Rattle.std.specs.Prelude.{ℕ, Bool, not, ◌&&◌, ◌≡◌, List, [], ◌∷◌, length, take, set, leb, Float}
+use Rattle.std.specs.Prelude.{ℕ, ◌≤◌, Bool, not, ◌&&◌, ◌≡◌, List, [], ◌∷◌, length, take, set, leb, Float, Ok, Err}
 use Rattle.std.proofs.lemmas.List.Edits.{sets}
-use Rattle.refusal.specs.Outcome.{Outcome, ok, refused, unless, number_of}
+use Rattle.refusal.specs.Outcome.{Outcome, unless, number_of}
 use Rattle.space.specs.declared.Plane.{Plane}
 use Rattle.space.specs.declared.Precision.{Precision}
 use Rattle.ears.specs.declared.Triangle.{Triangle}
@@ -18,12 +18,25 @@ places [] = []
 places (w ∷ l) = w.a ∷ w.b ∷ w.c ∷ places l
 
 unfoldable pub places_told : List ℕ → Outcome (List Triangle) → List ℕ
-places_told d (ok l) = sets d 0 (places l)
-places_told d (refused r) = d
+places_told d (Ok l) = sets d 0 (places l)
+places_told d (Err r) = d
 
 unfoldable pub count_told : List ℕ → Outcome (List Triangle) → List ℕ
-count_told n (ok l) = set n 0 (length l)
-count_told n (refused r) = n
+count_told n (Ok l) = set n 0 (length l)
+count_told n (Err r) = n
+
+-- the same by the code's answer, which has at most 126 triangles
+abbrev pub Few : Outcome Triples → Type 0
+Few (Ok t) = t.n ≤ 126
+Few (Err r) = Unit {0}
+
+unfoldable pub places_by : Outcome Triples → List ℕ → List ℕ
+places_by (Ok t) d = sets d 0 (places (triangles_in t))
+places_by (Err r) d = d
+
+unfoldable pub count_by : Outcome Triples → List ℕ → List ℕ
+count_by (Ok t) n = set n 0 t.n
+count_by (Err r) n = n
 
 -- the triangles, and how many there are; at a refusal both slices stay as they were
 pub record Drawn (o : Outcome (List Triangle)) (r : ℕ) (d n d' n' : List ℕ) : Type 0 where

@@ -4,12 +4,13 @@
 // leaves everything as it was.
 ghost use Rattle.std.specs.Prelude.{◌≡◌, [], ◌∷◌, ◌+◌, ◌≤◌, length, set};
 ghost use Rattle.std.proofs.lemmas.List.Edits.{sets};
-ghost use Rattle.lent.specs.Lent.{number_by, where_fine, plane_by};
-ghost use Rattle.mesh_leaf.specs.Drawing.{triangles_in, places, Drawn, mesh_fits, mesh_lent};
+ghost use Rattle.refusal.specs.Outcome.{number_of};
+ghost use Rattle.lent.specs.Lent.{plane_by};
+ghost use Rattle.mesh_leaf.specs.Drawing.{triangles_in, places, Few, places_by, count_by, Drawn, mesh_fits, mesh_lent};
 
 use ears::Triangle;
-use mesh::{Meshed, Triples};
-use refusal::Verdict;
+use mesh::Triples;
+use refusal::Refusal;
 use space::Precision;
 
 const SHORT: u64 = 64;
@@ -27,29 +28,22 @@ fn put_triples(out: &mut [u64], t: Triples)
     requires { (378 ≤ length out.old) × (t.n ≤ 126) }
     ensures { out.new ≡ sets out.old 0 (places (triangles_in t)) }
 {
-    let n = t.n;
-    let mut i = 0;
-    let mut o = 0;
-    while i < n {
-        let w = t.at[i];
-        put_triangle(out, o, w);
-        o += 3;
-        i += 1;
+    for i in 0..t.n {
+        put_triangle(out, 3 * i, t.at[i]);
     }
 }
 
 // The triangles, and how many there are, or the number of the refusal.
-fn put_meshed(out: &mut [u64], told: &mut [u64], m: Meshed) -> u64
-    requires { (378 ≤ length out.old) × (1 ≤ length told.old) × (m.triples.n ≤ 126) }
-    ensures value { result ≡ number_by m.verdict }
-    ensures out_after { out.new ≡ where_fine m.verdict (sets out.old 0 (places (triangles_in m.triples))) out.old }
-    ensures told_after { told.new ≡ where_fine m.verdict (set told.old 0 m.triples.n) told.old }
+#[tactic(auto, unfolding(crate::specs::Drawing::places_by, crate::specs::Drawing::count_by, refusal::specs::Outcome::number_of))]
+fn put_meshed(out: &mut [u64], told: &mut [u64], m: Result<Triples, Refusal>) -> u64
+    requires { (378 ≤ length out.old) × (1 ≤ length told.old) × Few m }
+    ensures value { result ≡ number_of m }
+    ensures out_after { out.new ≡ places_by m out.old }
+    ensures told_after { told.new ≡ count_by m told.old }
 {
-    let v = m.verdict;
-    let t = m.triples;
-    match v {
-        Verdict::Refused(e) => e.number,
-        Verdict::Fine => {
+    match m {
+        Err(e) => e.number,
+        Ok(t) => {
             told[0] = t.n as u64;
             put_triples(out, t);
             0
@@ -57,6 +51,7 @@ fn put_meshed(out: &mut [u64], told: &mut [u64], m: Meshed) -> u64
     }
 }
 
+#[tactic(auto, unfolding(crate::specs::Drawing::mesh_fits))]
 fn mesh_fits(plane: usize, out: usize, told: usize) -> bool
     ensures { result ≡ mesh_fits plane out told }
 {

@@ -1,6 +1,6 @@
 -- A cut, the cells of a Boolean operation and their pieces: up to 12.
-use Rattle.std.specs.Prelude.{Bool, true, false, cond, List, [], ◌∷◌, ◌++◌, reverse, ℕ, length, leb, ltb}
-use Rattle.refusal.specs.Outcome.{ok, refuse}
+use Rattle.std.specs.Prelude.{Bool, true, false, cond, List, [], ◌∷◌, ◌++◌, reverse, ℕ, length, leb, ltb, Ok, Err}
+use Rattle.refusal.specs.Outcome.{Outcome, refuse}
 use Rattle.lists.specs.Walks.{cyclic}
 use Rattle.space.specs.declared.Point3.{Point3}
 use Rattle.space.specs.declared.Precision.{Precision}
@@ -33,12 +33,12 @@ use Rattle.numbered.specs.Cuts.{Met}
 
 -- ---- the sides of a cell's corners
 
-noted_numbered : (s : Signs) (x : Side) → Sided x → Numbered 7 (noted s x)
+noted_numbered : (s : Signs) (x : Outcome Side) → Sided x → Numbered 7 (noted s x)
 unfolding noted
-noted_numbered s D.Positive w = answer _
-noted_numbered s D.Negative w = answer _
-noted_numbered s D.Zero w = answer s
-noted_numbered s (D.Refused r) w = number r w
+noted_numbered s (Ok D.Positive) w = answer _
+noted_numbered s (Ok D.Negative) w = answer _
+noted_numbered s (Ok D.Zero) w = answer s
+noted_numbered s (Err r) w = number r w
 
 signs_numbered : (t : Precision) (w : Plane) (c : Cell) → Numbered 7 (signs_of t w c)
 unfolding signs_of sign_face sign_one
@@ -46,32 +46,32 @@ signs_numbered t w c = numbered_walk (sign_face t w) (λ s f. numbered_walk (sig
 
 -- ---- an edge against a plane
 
-at_met : (s : Side) → Sided s → Met (at_corner s)
+at_met : (s : Outcome Side) → Sided s → Met (at_corner s)
 unfolding at_corner
-at_met D.Positive w = tt
-at_met D.Negative w = tt
-at_met D.Zero w = tt
-at_met (D.Refused r) w = among_more 7 9 r tt w
+at_met (Ok D.Positive) w = tt
+at_met (Ok D.Negative) w = tt
+at_met (Ok D.Zero) w = tt
+at_met (Err r) w = among_more 7 9 r tt w
 
-held_met : (s : Side) (m : Meet) → Sided s → Met m → Met (held_back s m)
+held_met : (s : Outcome Side) (m : Outcome Meet) → Sided s → Met m → Met (held_back s m)
 unfolding held_back
-held_met D.Positive m x w = w
-held_met D.Negative m x w = w
-held_met D.Zero m x w = w
-held_met (D.Refused r) m x w = among_more 7 9 r tt x
+held_met (Ok D.Positive) m x w = w
+held_met (Ok D.Negative) m x w = w
+held_met (Ok D.Zero) m x w = w
+held_met (Err r) m x w = among_more 7 9 r tt x
 
-corner_met : (a b : Side) → Sided a → Sided b → Met (corner_meet a b)
+corner_met : (a b : Outcome Side) → Sided a → Sided b → Met (corner_meet a b)
 unfolding corner_meet
 corner_met a b x y = held_met a (held_back b (at_corner a)) x (held_met b (at_corner a) y (at_met a x))
 
-landed_met : (s : Side) (q : Point3) → Sided s → Met (landed s q)
+landed_met : (s : Outcome Side) (q : Point3) → Sided s → Met (landed s q)
 unfolding landed
-landed_met D.Positive q w = among 9 9 tt tt
-landed_met D.Negative q w = among 9 9 tt tt
-landed_met D.Zero q w = tt
-landed_met (D.Refused r) q w = among_more 7 9 r tt w
+landed_met (Ok D.Positive) q w = among 9 9 tt tt
+landed_met (Ok D.Negative) q w = among 9 9 tt tt
+landed_met (Ok D.Zero) q w = tt
+landed_met (Err r) q w = among_more 7 9 r tt w
 
-vague_met : (b : Bool) (m : Meet) → Met m → Met (unless_vague b m)
+vague_met : (b : Bool) (m : Outcome Meet) → Met m → Met (unless_vague b m)
 vague_met true m w = among 8 9 tt tt
 vague_met false m w = w
 
@@ -81,11 +81,11 @@ cut_met t w a b =
     let q = between w a b in
     vague_met (no_ratio w a b) (landed (side_of t w q) q) (landed_met (side_of t w q) q (side_numbered t w q))
 
-either_met : (b : Bool) (m : Meet) → Met m → Met (cond b m M.Drop)
+either_met : (b : Bool) (m : Outcome Meet) → Met m → Met (cond b m (Ok M.Drop))
 either_met true m w = w
 either_met false m w = tt
 
-edge_met : (t : Precision) (w : Plane) (a b : Point3) (x y : Side) → Met (edge_meet t w a b x y)
+edge_met : (t : Precision) (w : Plane) (a b : Point3) (x y : Outcome Side) → Met (edge_meet t w a b x y)
 unfolding edge_meet
 edge_met t w a b x y = either_met (crosses x y) (cut_meet t w a b) (cut_met t w a b)
 
@@ -103,15 +103,15 @@ push_both_numbered : (s : Ring) (q : Point3) → Numbered 12 (push_both s q)
 unfolding push_both
 push_both_numbered s q = numbered_then (push_face_numbered s q) (λ u. push_cap_numbered u q)
 
-pushed_numbered : (s : Ring) (a : Point3) (m : Meet) → Met m → Numbered 12 (pushed s a m)
+pushed_numbered : (s : Ring) (a : Point3) (m : Outcome Meet) → Met m → Numbered 12 (pushed s a m)
 unfolding pushed
-pushed_numbered s a M.Keep w = push_face_numbered s a
-pushed_numbered s a M.Drop w = answer s
-pushed_numbered s a M.Touch w = push_both_numbered s a
-pushed_numbered s a (M.Cut x y z) w = push_both_numbered s _
-pushed_numbered s a (M.Refused r) w = number r (among_more 9 12 r tt w)
+pushed_numbered s a (Ok M.Keep) w = push_face_numbered s a
+pushed_numbered s a (Ok M.Drop) w = answer s
+pushed_numbered s a (Ok M.Touch) w = push_both_numbered s a
+pushed_numbered s a (Ok (M.Cut x y z)) w = push_both_numbered s _
+pushed_numbered s a (Err r) w = number r (among_more 9 12 r tt w)
 
-by_numbered : (t : Precision) (w : Plane) (s : Ring) (a b : Point3) (x y : Side) → Sided x → Sided y → Numbered 12 (cut_by t w s a b x y)
+by_numbered : (t : Precision) (w : Plane) (s : Ring) (a b : Point3) (x y : Outcome Side) → Sided x → Sided y → Numbered 12 (cut_by t w s a b x y)
 unfolding cut_by
 by_numbered t w s a b x y h k = numbered_then (pushed_numbered s a (corner_meet x y) (corner_met x y h k)) (λ u. pushed_numbered u a (edge_meet t w a b x y) (edge_met t w a b x y))
 
@@ -128,7 +128,7 @@ chain_numbered [] p = answer _
 chain_numbered (b ∷ []) p = answer _
 chain_numbered (b ∷ a ∷ r) p = by (turn a b p) (chain_numbered (a ∷ r) p)
   where
-    by : (x : Turn) → Numbered 12 (chain_one (a ∷ r) p) → Numbered {A = List Flat} 12 (elim x [ T.Positive ↦ ok (p ∷ b ∷ a ∷ r) | T.Negative ↦ chain_one (a ∷ r) p | T.Zero ↦ chain_one (a ∷ r) p | T.None ↦ refuse 10 ])
+    by : (x : Turn) → Numbered 12 (chain_one (a ∷ r) p) → Numbered {A = List Flat} 12 (elim x [ T.Positive ↦ Ok (p ∷ b ∷ a ∷ r) | T.Negative ↦ chain_one (a ∷ r) p | T.Zero ↦ chain_one (a ∷ r) p | T.None ↦ refuse 10 ])
     by T.Positive h = answer _
     by T.Negative h = h
     by T.Zero h = h

@@ -1,5 +1,5 @@
 -- An arrangement: up to 17; fusing: up to 23.
-use Rattle.std.specs.Prelude.{Bool, true, false, cond, ◌||◌, ℕ, ◌+◌, length, ltb}
+use Rattle.std.specs.Prelude.{Bool, true, false, cond, ◌||◌, ℕ, ◌+◌, length, ltb, Ok, Err, Some, None, Option}
 use Rattle.std.proofs.Math.Bool.{not}
 use mathlib.Core.List.{List, [], ◌∷◌, map}
 use Rattle.std.proofs.Math.Dec.{eqb}
@@ -13,8 +13,6 @@ use Rattle.space.specs.declared.Precision.{Precision}
 use Rattle.space.specs.Shapes.{Cell}
 use Rattle.indexed.specs.Stored.{flat}
 use Rattle.incidence.specs.declared.Line.{Line}
-use Rattle.incidence.specs.declared.Incidence.{Incidence}
-use Rattle.incidence.specs.declared.Incidence.TheVariants as I
 use Rattle.incidence.specs.Incidence.{is_collapsed, judged, beside, is_behind_start, is_before_end, before_end, incidence_on, incidence_of}
 use Rattle.insertion.specs.Insertion.{Inside, in_order}
 use Rattle.inside.specs.Edges.{unless_end, joined, inside_one, insides, in_line, inside_edge}
@@ -38,7 +36,7 @@ judged_incident S.Negative w = tt
 judged_incident S.Zero w = tt
 judged_incident S.Unknown w = among 16 16 tt tt
 
-either_incident : (b : Bool) (x : Incidence) → Incident x → Incident (cond b x I.Passed)
+either_incident : (b : Bool) (x : Outcome (Option Interval)) → Incident x → Incident (cond b x (Ok None))
 either_incident true x w = w
 either_incident false x w = tt
 
@@ -50,17 +48,17 @@ of_incident : (e : Line) (q : Point3) → Incident (incidence_of e q)
 unfolding incidence_of
 of_incident e q = on_incident e _ _
 
-end_incident : (b : Bool) (x : Incidence) → Incident x → Incident (unless_end b x)
+end_incident : (b : Bool) (x : Outcome (Option Interval)) → Incident x → Incident (unless_end b x)
 end_incident true x w = tt
 end_incident false x w = w
 
 -- ---- the vertices inside an edge
 
-joined_numbered : (x : Incidence) (l : List Inside) (k : ℕ) → Incident x → Numbered 17 (joined x l k)
+joined_numbered : (x : Outcome (Option Interval)) (l : List Inside) (k : ℕ) → Incident x → Numbered 17 (joined x l k)
 unfolding joined
-joined_numbered I.Passed l k w = answer l
-joined_numbered (I.Inside v) l k w = answer _
-joined_numbered (I.Refused r) l k w = number r (among_more 16 17 r tt w)
+joined_numbered (Ok None) l k w = answer l
+joined_numbered (Ok (Some v)) l k w = answer _
+joined_numbered (Err r) l k w = number r (among_more 16 17 r tt w)
 
 insides_numbered : (e : Line) (i j : ℕ) (ps : List Point3) → Numbered 17 (insides e i j ps)
 unfolding insides inside_one

@@ -1,12 +1,9 @@
 -- The mesh of a facet: up to 34.
-use Rattle.std.specs.Prelude.{Bool, true, false, not, List, [], ◌∷◌, ℕ, zero, suc, ◌+◌, ◌-◌, length, ltb}
-use Rattle.refusal.specs.declared.Verdict.{Verdict}
+use Rattle.std.specs.Prelude.{Bool, true, false, not, List, [], ◌∷◌, ℕ, zero, suc, ◌+◌, ◌-◌, length, ltb, Ok, Err, Some, None, Option}
 use Rattle.refusal.specs.Outcome.{Outcome}
 use Rattle.interval.specs.declared.Interval.{Interval}
 use Rattle.interval.specs.declared.Sign.{Sign}
 use Rattle.interval.specs.declared.Sign.TheVariants as S
-use Rattle.interval.specs.declared.Inverse.{Inverse}
-use Rattle.interval.specs.declared.Inverse.TheVariants as R
 use Rattle.space.specs.declared.Point3.{Point3}
 use Rattle.space.specs.declared.Precision.{Precision}
 use Rattle.space.specs.declared.Frame.{Frame}
@@ -60,10 +57,10 @@ basis_judged : (w : Plane) → Judged 34 (basis_of w)
 unfolding basis_of
 basis_judged w = handed_judged _
 
-shadow_numbered : (f : Frame) (d n : List Interval) (x : Inverse) → Numbered 34 (shadow_by f d n x)
+shadow_numbered : (f : Frame) (d n : List Interval) (x : Option Interval) → Numbered 34 (shadow_by f d n x)
 unfolding shadow_by
-shadow_numbered f d n (R.Value r) = answer _
-shadow_numbered f d n R.Nothing = numbered_at 34 tt tt
+shadow_numbered f d n (Some r) = answer _
+shadow_numbered f d n None = numbered_at 34 tt tt
 
 projected_numbered : (w : Plane) (q : Point3) → Numbered 34 (projected_of w q)
 unfolding projected_of
@@ -71,29 +68,29 @@ projected_numbered w q = shadow_numbered _ _ _ _
 
 -- ---- edges apart
 
-first_judged : {n : ℕ} {v w : Verdict} → Judged n v → Judged n w → Judged n (first_of v w)
+first_judged : {n : ℕ} {v w : Outcome Unit} → Judged n v → Judged n w → Judged n (first_of v w)
 unfolding first_of
 first_judged fine y = y
 first_judged (ruled r x) y = ruled r x
 
-each_judged : {n : ℕ} (f : ℕ → Verdict) → ((i : ℕ) → Judged n (f i)) → (i k : ℕ) → Judged n (each_of f i k)
+each_judged : {n : ℕ} (f : ℕ → Outcome Unit) → ((i : ℕ) → Judged n (f i)) → (i k : ℕ) → Judged n (each_of f i k)
 unfolding each_of
 each_judged f h i zero = fine
 each_judged f h i (suc k) = first_judged (h i) (each_judged f h (suc i) k)
 
-settled_judged : (x : Turn) → Turned x → Judged 33 (settled x)
+settled_judged : (x : Outcome Turn) → Turned x → Judged 33 (settled x)
 unfolding settled
-settled_judged T.Positive w = fine
-settled_judged T.Negative w = fine
-settled_judged T.Zero w = fine
-settled_judged (T.Refused r) w = ruled r w
+settled_judged (Ok T.Positive) w = fine
+settled_judged (Ok T.Negative) w = fine
+settled_judged (Ok T.Zero) w = fine
+settled_judged (Err r) w = ruled r w
 
 apart_judged : (b : Bool) → Judged 33 (apart b)
 unfolding apart
 apart_judged true = judged_at 30 tt tt
 apart_judged false = fine
 
-by_judged : (a b c d : Turn) (m : Bool) → Turned a → Turned b → Turned c → Turned d → Judged 33 (edges_by a b c d m)
+by_judged : (a b c d : Outcome Turn) (m : Bool) → Turned a → Turned b → Turned c → Turned d → Judged 33 (edges_by a b c d m)
 unfolding edges_by
 by_judged a b c d m x y z w = first_judged (settled_judged a x) (first_judged (settled_judged b y) (first_judged (settled_judged c z) (first_judged (settled_judged d w) (apart_judged m))))
 
@@ -118,14 +115,14 @@ unfolding blocked_where
 where_blocked true = tt
 where_blocked false = tt
 
-resolved_blocked : (x : Turn) (b : Block) → Turned x → Blocked b → Blocked (resolved x b)
+resolved_blocked : (x : Outcome Turn) (b : Outcome Block) → Turned x → Blocked b → Blocked (resolved x b)
 unfolding resolved
-resolved_blocked T.Positive b w h = h
-resolved_blocked T.Negative b w h = h
-resolved_blocked T.Zero b w h = h
-resolved_blocked (T.Refused r) b w h = w
+resolved_blocked (Ok T.Positive) b w h = h
+resolved_blocked (Ok T.Negative) b w h = h
+resolved_blocked (Ok T.Zero) b w h = h
+resolved_blocked (Err r) b w h = w
 
-by_blocked : (a b c : Turn) → Turned a → Turned b → Turned c → Blocked (inside_by a b c)
+by_blocked : (a b c : Outcome Turn) → Turned a → Turned b → Turned c → Blocked (inside_by a b c)
 unfolding inside_by
 by_blocked a b c x y z = resolved_blocked a _ x (resolved_blocked b _ y (resolved_blocked c _ z (where_blocked _)))
 
@@ -134,29 +131,29 @@ unfolding block_in inside_of
 in_blocked true p a b c q = tt
 in_blocked false p a b c q = by_blocked (orientation_of p a b q) (orientation_of p b c q) (orientation_of p c a q) (turn_turned p a b q) (turn_turned p b c q) (turn_turned p c a q)
 
-else_blocked : (a b : Block) → Blocked a → Blocked b → Blocked (or_else a b)
+else_blocked : (a b : Outcome Block) → Blocked a → Blocked b → Blocked (or_else a b)
 unfolding or_else
-else_blocked B.Clear b x y = y
-else_blocked B.Blocked b x y = tt
-else_blocked (B.Refused r) b x y = x
+else_blocked (Ok B.Clear) b x y = y
+else_blocked (Ok B.Blocked) b x y = tt
+else_blocked (Err r) b x y = x
 
 all_blocked : (p : Precision) (ps : List Projected) (w : Triangle) (l : List ℕ) → Blocked (blocked_by p ps w l)
 unfolding blocked_by block_at
 all_blocked p ps w [] = tt
 all_blocked p ps w (q ∷ l) = else_blocked (block_at p ps w q) (blocked_by p ps w l) (in_blocked (corner_of w q) p _ _ _ _) (all_blocked p ps w l)
 
-ear_scanned : (b : Block) (i : ℕ) (w : Triangle) (rest : Found) → Blocked b → Scanned rest → Scanned (ear_by b i w rest)
+ear_scanned : (b : Outcome Block) (i : ℕ) (w : Triangle) (rest : Outcome Found) → Blocked b → Scanned rest → Scanned (ear_by b i w rest)
 unfolding ear_by
-ear_scanned B.Clear i w rest x y = tt
-ear_scanned B.Blocked i w rest x y = y
-ear_scanned (B.Refused r) i w rest x y = x
+ear_scanned (Ok B.Clear) i w rest x y = tt
+ear_scanned (Ok B.Blocked) i w rest x y = y
+ear_scanned (Err r) i w rest x y = x
 
-found_scanned : (s : Turn) (b : Block) (i : ℕ) (w : Triangle) (rest : Found) → Turned s → Blocked b → Scanned rest → Scanned (found_by s b i w rest)
+found_scanned : (s : Outcome Turn) (b : Outcome Block) (i : ℕ) (w : Triangle) (rest : Outcome Found) → Turned s → Blocked b → Scanned rest → Scanned (found_by s b i w rest)
 unfolding found_by
-found_scanned T.Positive b i w rest s x y = ear_scanned b i w rest x y
-found_scanned T.Negative b i w rest s x y = y
-found_scanned T.Zero b i w rest s x y = tt
-found_scanned (T.Refused r) b i w rest s x y = s
+found_scanned (Ok T.Positive) b i w rest s x y = ear_scanned b i w rest x y
+found_scanned (Ok T.Negative) b i w rest s x y = y
+found_scanned (Ok T.Zero) b i w rest s x y = tt
+found_scanned (Err r) b i w rest s x y = s
 
 at_turned : (p : Precision) (ps : List Projected) (w : Triangle) → Turned (turn_at p ps w)
 unfolding turn_at
@@ -171,30 +168,30 @@ from_scanned p ps l i (suc k) =
 
 -- ---- the triangles
 
-clip_by_numbered : (x : Found) (s : Clipping) → Scanned x → Numbered 34 (clip_by x s)
+clip_by_numbered : (x : Outcome Found) (s : Clipping) → Scanned x → Numbered 34 (clip_by x s)
 unfolding clip_by
-clip_by_numbered (F.Ear i w) s h = answer _
-clip_by_numbered (F.Straight i) s h = answer _
-clip_by_numbered F.Nothing s h = numbered_at 31 tt tt
-clip_by_numbered (F.Refused r) s h = number r (among_more 33 34 r tt h)
+clip_by_numbered (Ok (F.Ear i w)) s h = answer _
+clip_by_numbered (Ok (F.Straight i)) s h = answer _
+clip_by_numbered (Ok F.Nothing) s h = numbered_at 31 tt tt
+clip_by_numbered (Err r) s h = number r (among_more 33 34 r tt h)
 
 clip_from_numbered : (k : ℕ) (p : Precision) (ps : List Projected) (s : Clipping) → Numbered 34 (clip_from k p ps s)
 unfolding clip_from clip_one scan_of
 clip_from_numbered zero p ps s = answer s
 clip_from_numbered (suc k) p ps s = numbered_then (clip_by_numbered _ s (from_scanned p ps s.left 0 (length s.left))) (clip_from_numbered k p ps)
 
-end_by_numbered : (x : Turn) (l : List Triangle) (w : Triangle) → Turned x → Numbered 34 (end_by x l w)
+end_by_numbered : (x : Outcome Turn) (l : List Triangle) (w : Triangle) → Turned x → Numbered 34 (end_by x l w)
 unfolding end_by
-end_by_numbered T.Positive l w h = answer _
-end_by_numbered T.Negative l w h = numbered_at 32 tt tt
-end_by_numbered T.Zero l w h = numbered_at 32 tt tt
-end_by_numbered (T.Refused r) l w h = number r (among_more 33 34 r tt h)
+end_by_numbered (Ok T.Positive) l w h = answer _
+end_by_numbered (Ok T.Negative) l w h = numbered_at 32 tt tt
+end_by_numbered (Ok T.Zero) l w h = numbered_at 32 tt tt
+end_by_numbered (Err r) l w h = number r (among_more 33 34 r tt h)
 
 clipped_numbered : (p : Precision) (ps : List Projected) → Numbered 34 (clipped_of p ps)
 unfolding clipped_of clip_all end_of
 clipped_numbered p ps = numbered_then (clip_from_numbered _ p ps (begun (length ps))) (λ s. end_by_numbered (turn_at p ps (first_three s.left)) s.ears _ (at_turned p ps (first_three s.left)))
 
-given_numbered : {A : Type 0} {n : ℕ} {v : Verdict} {o : Outcome A} → Judged n v → Numbered n o → Numbered n (given v o)
+given_numbered : {A : Type 0} {n : ℕ} {v : Outcome Unit} {o : Outcome A} → Judged n v → Numbered n o → Numbered n (given v o)
 unfolding given
 given_numbered fine w = w
 given_numbered (ruled r x) w = number r x

@@ -1,7 +1,6 @@
 -- An offset: up to 27; the wall of a hollow: up to 29.
-use Rattle.std.specs.Prelude.{Bool, true, false, not, cond, List, [], ◌∷◌, ◌++◌, ℕ, suc, length, replicate, eqb, ltb, Float}
-use Rattle.refusal.specs.declared.Verdict.TheVariants.{Fine, Refused}
-use Rattle.refusal.specs.Outcome.{refusal_of}
+use Rattle.std.specs.Prelude.{Bool, true, false, not, cond, List, [], ◌∷◌, ◌++◌, ℕ, suc, length, replicate, eqb, ltb, Float, Ok, Err}
+use Rattle.refusal.specs.Outcome.{Outcome, refusal_of}
 use Rattle.lists.specs.Walks.{all}
 use Rattle.float.specs.Float.{finite}
 use Rattle.space.specs.declared.Point3.{Point3}
@@ -47,21 +46,21 @@ face_numbered t qs m = numbered_then (numbered_then (plane_numbered t _ _ _) (λ
 
 -- ---- the corners of a cell against planes
 
-above_judged : (s : Side) → Sided s → Judged 27 (not_above s)
+above_judged : (s : Outcome Side) → Sided s → Judged 27 (not_above s)
 unfolding not_above
-above_judged D.Positive w = judged_at 27 tt tt
-above_judged D.Negative w = fine
-above_judged D.Zero w = fine
-above_judged (D.Refused r) w = ruled r (among_more 7 27 r tt w)
+above_judged (Ok D.Positive) w = judged_at 27 tt tt
+above_judged (Ok D.Negative) w = fine
+above_judged (Ok D.Zero) w = fine
+above_judged (Err r) w = ruled r (among_more 7 27 r tt w)
 
-below_judged : (s : Side) → Sided s → Judged 29 (well_below s)
+below_judged : (s : Outcome Side) → Sided s → Judged 29 (well_below s)
 unfolding well_below
-below_judged D.Positive w = judged_at 29 tt tt
-below_judged D.Negative w = fine
-below_judged D.Zero w = judged_at 29 tt tt
-below_judged (D.Refused r) w = ruled r (among_more 7 29 r tt w)
+below_judged (Ok D.Positive) w = judged_at 29 tt tt
+below_judged (Ok D.Negative) w = fine
+below_judged (Ok D.Zero) w = judged_at 29 tt tt
+below_judged (Err r) w = ruled r (among_more 7 29 r tt w)
 
-module _ {n : ℕ} (strict : Bool) (h : (s : Side) → Sided s → Judged n (judged strict s)) where
+module _ {n : ℕ} (strict : Bool) (h : (s : Outcome Side) → Sided s → Judged n (judged strict s)) where
   against_judged : (t : Precision) (bounds c : Cell) → Judged n (against strict t bounds c)
   unfolding against points_in point_in
   against_judged t bounds c =
@@ -96,7 +95,7 @@ room_judged : (room n : ℕ) → Judged 29 (room_for room n)
 unfolding room_for
 room_judged room n = by (ltb room n)
   where
-    by : (b : Bool) → Judged 29 (cond b (Refused (refusal_of 12)) Fine)
+    by : (b : Bool) → Judged 29 (cond b (Err (refusal_of 12)) (Ok tt))
     by true = judged_at 12 tt tt
     by false = fine
 

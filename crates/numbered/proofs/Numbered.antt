@@ -1,6 +1,5 @@
 -- A refusal's number is one of 01's, and so it stays however outcomes and verdicts are put together.
 use Rattle.std.specs.Prelude.{ℕ, T, leb}
-use Rattle.refusal.specs.declared.Verdict.{Verdict}
 use Rattle.refusal.specs.Outcome.{Outcome}
 use Rattle.numbered.specs.Numbered.{Numbered, answer, number, Judged, fine, ruled, among_more}
 
@@ -12,6 +11,6 @@ numbered_more {n = n} {m} h (number r w) = number r (among_more n m r h w)
 
 -- ---- verdicts
 
-pub judged_more : {n m : ℕ} {v : Verdict} → T (leb n m) → Judged n v → Judged m v
+pub judged_more : {n m : ℕ} {v : Outcome Unit} → T (leb n m) → Judged n v → Judged m v
 judged_more h fine = fine
 judged_more {n} {m} h (ruled r w) = ruled r (among_more n m r h w)

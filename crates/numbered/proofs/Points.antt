@@ -1,5 +1,6 @@
 -- Planes: up to 5; near points, and the points of a cell, each once: up to 6; sides: up to 7; merged points: up to 14.
-use Rattle.std.specs.Prelude.{not, List, ℕ, length, eqb, ltb}
+use Rattle.refusal.specs.Outcome.{Outcome}
+use Rattle.std.specs.Prelude.{not, List, ℕ, length, eqb, ltb, Ok, Err}
 use Rattle.space.specs.declared.Point3.{Point3}
 use Rattle.space.specs.declared.Precision.{Precision}
 use Rattle.space.specs.declared.Closeness.{Closeness}
@@ -15,11 +16,11 @@ use Rattle.numbered.specs.Points.{Close, near_numbered, faces_numbered}
 
 -- ---- the points of a cell, each once
 
-met_numbered : (c : Closeness) (n h i : ℕ) → Close c → Numbered 13 (met c n h i)
+met_numbered : (c : Outcome Closeness) (n h i : ℕ) → Close c → Numbered 13 (met c n h i)
 unfolding met
-met_numbered C.Near n h i w = numbered_unless (not (eqb h n)) 13 tt tt (answer i)
-met_numbered C.Apart n h i w = answer h
-met_numbered (C.Refused x) n h i w = numbered_more tt (number x w)
+met_numbered (Ok C.Near) n h i w = numbered_unless (not (eqb h n)) 13 tt tt (answer i)
+met_numbered (Ok C.Apart) n h i w = answer h
+met_numbered (Err x) n h i w = numbered_more tt (number x w)
 
 only_numbered : (t : Precision) (q : Point3) (l : List Point3) → Numbered 13 (search_by Only t q l)
 unfolding search_by only_in

@@ -1,6 +1,5 @@
 -- The solid check, and solids built of cells: up to 7, and 33 of a given solid; what every call begins with: up to 12.
-use Rattle.std.specs.Prelude.{Bool, true, false, not, ◌&&◌, List, [], ◌∷◌, map, ℕ, zero, suc, ◌+◌, length}
-use Rattle.refusal.specs.declared.Verdict.{Verdict}
+use Rattle.std.specs.Prelude.{Bool, true, false, not, ◌&&◌, List, [], ◌∷◌, map, ℕ, zero, suc, ◌+◌, length, Ok, Err}
 use Rattle.refusal.specs.Outcome.{Outcome}
 use Rattle.lists.specs.Walks.{numbered}
 use Rattle.space.specs.declared.Point3.{Point3}
@@ -37,11 +36,11 @@ use Rattle.numbered.specs.Solids.{judged_first, judged_each, plane_for_numbered,
 
 -- ---- pairs of points
 
-pair_judged : (c : Closeness) → Close c → Judged 7 (not_near c)
+pair_judged : (c : Outcome Closeness) → Close c → Judged 7 (not_near c)
 unfolding not_near
-pair_judged C.Near w = judged_at 4 tt tt
-pair_judged C.Apart w = fine
-pair_judged (C.Refused r) w = judged_more tt (ruled r w)
+pair_judged (Ok C.Near) w = judged_at 4 tt tt
+pair_judged (Ok C.Apart) w = fine
+pair_judged (Err r) w = judged_more tt (ruled r w)
 
 apart_judged : (t : Precision) (l : List Point3) → Judged 7 (apart_all t l)
 unfolding apart_all apart_from
@@ -50,12 +49,12 @@ apart_judged t (q ∷ l) = judged_first (judged_each _ (λ r. pair_judged (near_
 
 -- ---- the points against the faces
 
-side_judged : (s : Side) (own b : Bool) → Sided s → Numbered 7 (judge_side s own b)
+side_judged : (s : Outcome Side) (own b : Bool) → Sided s → Numbered 7 (judge_side s own b)
 unfolding judge_side
-side_judged D.Positive own b w = numbered_at 4 tt tt
-side_judged D.Negative own b w = numbered_unless own 4 tt tt (answer true)
-side_judged D.Zero own b w = answer b
-side_judged (D.Refused r) own b w = number r w
+side_judged (Ok D.Positive) own b w = numbered_at 4 tt tt
+side_judged (Ok D.Negative) own b w = numbered_unless own 4 tt tt (answer true)
+side_judged (Ok D.Zero) own b w = answer b
+side_judged (Err r) own b w = number r w
 
 below_judged : {o : Outcome Bool} → Numbered 7 o → Judged 7 (some_below o)
 unfolding some_below
@@ -104,7 +103,7 @@ shaped_judged given t ps fs =
 
 -- ---- the check
 
-after_numbered : {A : Type 0} {n : ℕ} {v : Verdict} {o : Outcome A} → Judged n v → Numbered n o → Numbered n (after v o)
+after_numbered : {A : Type 0} {n : ℕ} {v : Outcome Unit} {o : Outcome A} → Judged n v → Numbered n o → Numbered n (after v o)
 unfolding after
 after_numbered fine w = w
 after_numbered (ruled r x) w = number r x

@@ -1,18 +1,18 @@
 -- An arrangement: up to 17; fusing: up to 23.
-use Rattle.std.specs.Prelude.{ℕ}
+use Rattle.interval.specs.declared.Interval.{Interval}
+use Rattle.refusal.specs.Outcome.{Outcome}
+use Rattle.std.specs.Prelude.{ℕ, Ok, Err, Some, None, Option}
 use mathlib.Core.List.{List, [], ◌∷◌}
-use Rattle.incidence.specs.declared.Incidence.{Incidence}
-use Rattle.incidence.specs.declared.Incidence.TheVariants as I
 use Rattle.bodies.specs.Fusing.{outer_first}
 use Rattle.numbered.specs.Numbered.{Among, Numbered, answer, numbered_at}
 
 -- ---- a point against an edge
 
 -- an incidence that refuses has a number up to 16
-abbrev pub Incident : Incidence → Type 0
-Incident I.Passed = Unit {0}
-Incident (I.Inside w) = Unit {0}
-Incident (I.Refused r) = Among 16 r
+abbrev pub Incident : Outcome (Option Interval) → Type 0
+Incident (Ok None) = Unit {0}
+Incident (Ok (Some w)) = Unit {0}
+Incident (Err r) = Among 16 r
 
 -- ---- shells and bodies
 

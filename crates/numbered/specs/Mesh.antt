@@ -1,4 +1,6 @@
 -- The mesh of a facet: up to 34.
+use Rattle.refusal.specs.Outcome.{Outcome}
+use Rattle.std.specs.Prelude.{Ok, Err}
 use Rattle.turns.specs.declared.Turn.{Turn}
 use Rattle.turns.specs.declared.Turn.TheVariants as T
 use Rattle.ears.specs.declared.Block.{Block}
@@ -10,22 +12,22 @@ use Rattle.numbered.specs.Numbered.{Among}
 -- ---- turns
 
 -- a turn that refuses has a number up to 33
-abbrev pub Turned : Turn → Type 0
-Turned T.Positive = Unit {0}
-Turned T.Negative = Unit {0}
-Turned T.Zero = Unit {0}
-Turned (T.Refused r) = Among 33 r
+abbrev pub Turned : Outcome Turn → Type 0
+Turned (Ok T.Positive) = Unit {0}
+Turned (Ok T.Negative) = Unit {0}
+Turned (Ok T.Zero) = Unit {0}
+Turned (Err r) = Among 33 r
 
 -- ---- the scan for an ear
 
 -- a test of a corner, and a scan, that refuse have a number up to 33
-abbrev pub Blocked : Block → Type 0
-Blocked B.Clear = Unit {0}
-Blocked B.Blocked = Unit {0}
-Blocked (B.Refused r) = Among 33 r
+abbrev pub Blocked : Outcome Block → Type 0
+Blocked (Ok B.Clear) = Unit {0}
+Blocked (Ok B.Blocked) = Unit {0}
+Blocked (Err r) = Among 33 r
 
-abbrev pub Scanned : Found → Type 0
-Scanned (F.Ear i w) = Unit {0}
-Scanned (F.Straight i) = Unit {0}
-Scanned F.Nothing = Unit {0}
-Scanned (F.Refused r) = Among 33 r
+abbrev pub Scanned : Outcome Found → Type 0
+Scanned (Ok (F.Ear i w)) = Unit {0}
+Scanned (Ok (F.Straight i)) = Unit {0}
+Scanned (Ok F.Nothing) = Unit {0}
+Scanned (Err r) = Among 33 r

@@ -1,10 +1,8 @@
 -- A refusal's number is one of 01's, and so it stays however outcomes and verdicts are put together.
-use Rattle.std.specs.Prelude.{◌≡◌, refl, ◌⊎◌, Bool, true, false, cond, List, [], ◌∷◌, ◌++◌, ℕ, ◌≤◌, T, leb}
+use Rattle.std.specs.Prelude.{◌≡◌, refl, ◌⊎◌, Bool, true, false, cond, List, [], ◌∷◌, ◌++◌, ℕ, ◌≤◌, T, leb, Ok, Err}
 use Rattle.std.proofs.Common.{inl, inr, le_trans, arith, leb→le}
 use Rattle.refusal.specs.declared.Refusal.{Refusal}
-use Rattle.refusal.specs.declared.Verdict.{Verdict}
-use Rattle.refusal.specs.declared.Verdict.TheVariants.{Fine, Refused}
-use Rattle.refusal.specs.Outcome.{Outcome, ok, refused, refuse, refusal_of, then, unless, walk, each, heard, verdict_of}
+use Rattle.refusal.specs.Outcome.{Outcome, refuse, refusal_of, then, unless, walk, each, heard, verdict_of}
 
 -- from 1 to n, or 33: the check of an input solid has it too
 abbrev pub Among : ℕ → Refusal → Type 0
@@ -12,13 +10,13 @@ Among n r = (1 ≤ r.number) × ((r.number ≤ n) ⊎ (r.number ≡ 33))
 
 -- a refusal's number is one of 01's, from 1 to n or 33
 pub data Numbered {A : Type 0} (n : ℕ) : Outcome A → Type 0 where
-  answer : (a : A) → Numbered n (ok a)
-  number : (r : Refusal) → Among n r → Numbered n (refused r)
+  answer : (a : A) → Numbered n (Ok a)
+  number : (r : Refusal) → Among n r → Numbered n (Err r)
 
 -- the same of a verdict
-pub data Judged (n : ℕ) : Verdict → Type 0 where
-  fine : Judged n Fine
-  ruled : (r : Refusal) → Among n r → Judged n (Refused r)
+pub data Judged (n : ℕ) : Outcome Unit → Type 0 where
+  fine : Judged n (Ok tt)
+  ruled : (r : Refusal) → Among n r → Judged n (Err r)
 
 -- ---- one number
 
@@ -48,7 +46,7 @@ among_byte n r h w = go w.1
 
 -- ---- outcomes
 
-pub numbered_among : {A : Type 0} {n : ℕ} {r : Refusal} → Numbered {A = A} n (refused r) → Among n r
+pub numbered_among : {A : Type 0} {n : ℕ} {r : Refusal} → Numbered {A = A} n (Err r) → Among n r
 numbered_among (number r w) = w
 
 pub numbered_at : {A : Type 0} (k : ℕ) {n : ℕ} → T (leb 1 k) → T (leb k n) → Numbered {A = A} n (refuse k)
@@ -78,12 +76,12 @@ numbered_each f h acc (x ∷ l) = numbered_then (h x) (λ y. numbered_each f h (
 
 -- ---- verdicts
 
-pub numbered_heard : {A : Type 0} {n : ℕ} {v : Verdict} (a : A) → Judged n v → Numbered n (heard v a)
+pub numbered_heard : {A : Type 0} {n : ℕ} {v : Outcome Unit} (a : A) → Judged n v → Numbered n (heard v a)
 unfolding heard
 numbered_heard a fine = answer a
 numbered_heard a (ruled r w) = number r w
 
-pub judged_at : (k : ℕ) {n : ℕ} → T (leb 1 k) → T (leb k n) → Judged n (Refused (refusal_of k))
+pub judged_at : (k : ℕ) {n : ℕ} → T (leb 1 k) → T (leb k n) → Judged n (Err (refusal_of k))
 judged_at k {n} a b = ruled (refusal_of k) (among k n a b)
 
 pub judged_of : {A : Type 0} {n : ℕ} {o : Outcome A} → Numbered n o → Judged n (verdict_of o)

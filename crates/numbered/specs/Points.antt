@@ -1,6 +1,6 @@
 -- Planes: up to 5; near points, and the points of a cell, each once: up to 6; sides: up to 7; merged points: up to 14.
-use Rattle.std.specs.Prelude.{Bool, true, false, List, [], ◌∷◌, ℕ, suc, Float}
-use Rattle.refusal.specs.Outcome.{ok, refused}
+use Rattle.refusal.specs.Outcome.{Outcome}
+use Rattle.std.specs.Prelude.{Bool, true, false, List, [], ◌∷◌, ℕ, suc, Float, Ok, Err}
 use Rattle.interval.specs.declared.Interval.{Interval}
 use Rattle.interval.specs.declared.Sign.{Sign}
 use Rattle.interval.specs.declared.Sign.TheVariants as S
@@ -39,11 +39,11 @@ opposite_numbered t w = numbered_then (plane_numbered t _ _ _) (λ v. answer _)
 -- ---- sides
 
 -- a side that refuses has a number up to 7
-abbrev pub Sided : Side → Type 0
-Sided D.Positive = Unit {0}
-Sided D.Negative = Unit {0}
-Sided D.Zero = Unit {0}
-Sided (D.Refused r) = Among 7 r
+abbrev pub Sided : Outcome Side → Type 0
+Sided (Ok D.Positive) = Unit {0}
+Sided (Ok D.Negative) = Unit {0}
+Sided (Ok D.Zero) = Unit {0}
+Sided (Err r) = Among 7 r
 
 first_numbered : (p n z : Bool) → Sided (first_of p n z)
 first_numbered true n z = tt
@@ -62,10 +62,10 @@ side_numbered t w q = class_numbered (distance_of w q) t.local
 -- ---- near points
 
 -- a comparison that refuses has a number up to 6
-abbrev pub Close : Closeness → Type 0
-Close C.Near = Unit {0}
-Close C.Apart = Unit {0}
-Close (C.Refused r) = Among 6 r
+abbrev pub Close : Outcome Closeness → Type 0
+Close (Ok C.Near) = Unit {0}
+Close (Ok C.Apart) = Unit {0}
+Close (Err r) = Among 6 r
 
 closeness_numbered : (s : Sign) → Close (closeness_of s)
 unfolding closeness_of
@@ -78,28 +78,28 @@ pub near_numbered : (t : Precision) (a b : Point3) → Close (near_of t a b)
 unfolding near_of
 near_numbered t a b = closeness_numbered _
 
-both_numbered : (c d : Closeness) → Close c → Close d → Close (both c d)
+both_numbered : (c d : Outcome Closeness) → Close c → Close d → Close (both c d)
 unfolding both
-both_numbered (C.Refused r) d x y = x
-both_numbered C.Apart d x y = y
-both_numbered C.Near C.Near x y = tt
-both_numbered C.Near C.Apart x y = tt
-both_numbered C.Near (C.Refused r) x y = y
+both_numbered (Err r) d x y = x
+both_numbered (Ok C.Apart) d x y = y
+both_numbered (Ok C.Near) (Ok C.Near) x y = tt
+both_numbered (Ok C.Near) (Ok C.Apart) x y = tt
+both_numbered (Ok C.Near) (Err r) x y = y
 
-scan_numbered : (t : Precision) (q : Point3) (s : Closeness) (l : List Point3) → Close s → Close (scan t q s l)
+scan_numbered : (t : Precision) (q : Point3) (s : Outcome Closeness) (l : List Point3) → Close s → Close (scan t q s l)
 unfolding scan
 scan_numbered t q s [] w = w
 scan_numbered t q s (r ∷ l) w = scan_numbered t q (both s (near_of t q r)) l (both_numbered s (near_of t q r) w (near_numbered t q r))
 
-keep_numbered : (c : Closeness) (kept : List Point3) (q : Point3) → Close c → Numbered 6 (keep_if c kept q)
+keep_numbered : (c : Outcome Closeness) (kept : List Point3) (q : Point3) → Close c → Numbered 6 (keep_if c kept q)
 unfolding keep_if
-keep_numbered C.Near kept q w = answer _
-keep_numbered C.Apart kept q w = answer _
-keep_numbered (C.Refused r) kept q w = number r w
+keep_numbered (Ok C.Near) kept q w = answer _
+keep_numbered (Ok C.Apart) kept q w = answer _
+keep_numbered (Err r) kept q w = number r w
 
 pub unique_numbered : (t : Precision) (l : List Point3) → Numbered 6 (unique t l)
 unfolding unique keep_one
-unique_numbered t l = numbered_walk (keep_one t) (λ kept q. keep_numbered (scan t q C.Apart kept) kept q (scan_numbered t q C.Apart kept tt)) [] l
+unique_numbered t l = numbered_walk (keep_one t) (λ kept q. keep_numbered (scan t q (Ok C.Apart) kept) kept q (scan_numbered t q (Ok C.Apart) kept tt)) [] l
 
 -- ---- the points of a cell, each once
 
@@ -108,10 +108,10 @@ unfolding place_in
 place_numbered t q i [] = answer i
 place_numbered t q i (r ∷ l) = by (near_of t q r) (near_numbered t q r) (place_numbered t q (suc i) l)
   where
-    by : (c : Closeness) → Close c → Numbered 6 (place_in t q (suc i) l) → Numbered {A = ℕ} 6 (elim c [ C.Near ↦ ok i | C.Apart ↦ place_in t q (suc i) l | C.Refused x ↦ refused x ])
-    by C.Near w h = answer i
-    by C.Apart w h = h
-    by (C.Refused x) w h = number x w
+    by : (c : Outcome Closeness) → Close c → Numbered 6 (place_in t q (suc i) l) → Numbered {A = ℕ} 6 (elim c [ Ok C.Near ↦ Ok i | Ok C.Apart ↦ place_in t q (suc i) l | Err x ↦ Err x ])
+    by (Ok C.Near) w h = answer i
+    by (Ok C.Apart) w h = h
+    by (Err x) w h = number x w
 
 module _ {n : ℕ} (find : Search) (h : (q : Point3) (l : List Point3) → Numbered n (find q l)) where
   face_numbered : (s : Solid) (f : Face) → Numbered n (index_face find s f)

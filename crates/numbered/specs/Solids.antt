@@ -1,6 +1,6 @@
 -- The solid check, and solids built of cells: up to 7, and 33 of a given solid; what every call begins with: up to 12.
+use Rattle.refusal.specs.Outcome.{Outcome}
 use Rattle.std.specs.Prelude.{List, [], ◌∷◌, ℕ, length, ltb}
-use Rattle.refusal.specs.declared.Verdict.{Verdict}
 use Rattle.space.specs.declared.Point3.{Point3}
 use Rattle.space.specs.declared.Precision.{Precision}
 use Rattle.space.specs.Shapes.{Solid}
@@ -12,12 +12,12 @@ use Rattle.numbered.specs.Points.{face_plane_numbered}
 
 -- ---- verdicts in order
 
-pub judged_first : {n : ℕ} {v w : Verdict} → Judged n v → Judged n w → Judged n (first_of v w)
+pub judged_first : {n : ℕ} {v w : Outcome Unit} → Judged n v → Judged n w → Judged n (first_of v w)
 unfolding first_of
 judged_first fine y = y
 judged_first (ruled r x) y = ruled r x
 
-pub judged_each : {A : Type 0} {n : ℕ} (f : A → Verdict) → ((x : A) → Judged n (f x)) → (l : List A) → Judged n (each_in f l)
+pub judged_each : {A : Type 0} {n : ℕ} (f : A → Outcome Unit) → ((x : A) → Judged n (f x)) → (l : List A) → Judged n (each_in f l)
 unfolding each_in
 judged_each f h [] = fine
 judged_each f h (x ∷ l) = judged_first (h x) (judged_each f h l)

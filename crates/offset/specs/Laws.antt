@@ -1,5 +1,5 @@
 -- Laws of an offset's loops, in the words of the code.
-use Rattle.std.specs.Prelude.{◌≡◌, refl, Bool, false, ◌&&◌, ℕ, ◌+◌, ◌*◌, ◌≤◌, ◌<◌, length, take, set}
+use Rattle.std.specs.Prelude.{◌≡◌, refl, Bool, false, ◌&&◌, ℕ, ◌+◌, ◌*◌, ◌≤◌, ◌<◌, length, take, set, Ok, Err}
 use Rattle.std.proofs.Math.Path.{sym, ap, subst}
 use Rattle.std.proofs.Common.{◌∙◌, add-one, length-take, length-drop}
 use mathlib.Core.List.{List, [], ◌∷◌, ◌++◌, map}
@@ -9,9 +9,7 @@ use Rattle.std.proofs.lemmas.List.{length-map}
 use Rattle.std.proofs.Math.Seq.{sets, length-sets}
 use Rattle.std.specs.Float.Ieee.{Float, nan}
 use Rattle.refusal.specs.declared.Refusal.{Refusal}
-use Rattle.refusal.specs.declared.Verdict.{Verdict}
-use Rattle.refusal.specs.declared.Verdict.TheVariants as D
-use Rattle.refusal.specs.Outcome.{Outcome, ok, refused, then, each}
+use Rattle.refusal.specs.Outcome.{Outcome, then, each}
 use Rattle.refusal.specs.Laws.{stop, go, each_stop, each_go, each_end, same_ok, then_ok}
 use Rattle.lists.specs.Laws.{next, done}
 use Rattle.lists.specs.Walks.{all}
@@ -21,7 +19,7 @@ use Rattle.space.specs.declared.Precision.{Precision}
 use Rattle.space.specs.Shapes.{Face, Cell, corners}
 use Rattle.polygon.specs.Memory.{floats, floats_of, point_at, points_at}
 use Rattle.room.specs.Rooms.{plane_floats, face_floats, cell_floats, cell_counts, face_at, cell_at, counts_at, Within, Small}
-use Rattle.room.specs.Laws.{sets_append, sets_point, points_more, floats_more, counts_more, next_point, points_done, next_count, counts_done, within_small, within_rest, within_le, corners_snoc, corners_none, all_none, all_snoc}
+use Rattle.room.specs.Laws.{sets_append, points_more, floats_more, counts_more, next_point, points_done, next_count, within_small, within_rest, within_le, corners_snoc, corners_none, all_none, all_snoc}
 use Rattle.cell.specs.Laws.{Ahead, ahead_next, ahead_inside, ahead_done}
 use Rattle.solids.specs.Sides.{has}
 use Rattle.solids.specs.Frames.{point_of, faces_at, Placing}
@@ -147,7 +145,7 @@ module _ {t : Precision} {ms : List Moving} {p : List Float} {m : ℕ} {d₀ d :
   moves : {q : Point3} {z : Outcome Point3} (w : Meeting) → q ≡ point_at p (3 * x) → w ≡ meeting (pushes x [] ms) → moved_at t q w ≡ z → moved_at t (point_at p (0 + 3 * x)) (meeting (pushes x [] ms)) ≡ z
   moves {q} w e f g = ap (λ y. moved_at t y (meeting (pushes x [] ms))) (ap (point_at p) (omega arith) ∙ sym e) ∙ ap (moved_at t q) (sym f) ∙ g
 
-  pub shifting_step : {q : Point3} {w : Meeting} (r : Point3) (d' : List Float) → x < m → q ≡ point_at p (3 * x) → w ≡ meeting (pushes x [] ms) → moved_at t q w ≡ ok r →
+  pub shifting_step : {q : Point3} {w : Meeting} (r : Point3) (d' : List Float) → x < m → q ≡ point_at p (3 * x) → w ≡ meeting (pushes x [] ms) → moved_at t q w ≡ Ok r →
       d' ≡ sets d (3 * x) (floats r) → Shifting t ms p m d₀ d' (x + 1)
   unfolding move_points
   shifting_step {q} {w} r d' h e f g u = record {
@@ -158,76 +156,48 @@ module _ {t : Precision} {ms : List Moving} {p : List Float} {m : ℕ} {d₀ d :
     rest = ap (λ y. move_points t ms y (I.list ++ (r ∷ [])) (drop (x + 1) (points_at p 0 m))) (add-one x) ∙ sym (go (moved_at t (point_at p (0 + 3 * x)) (meeting (pushes x [] ms))) _ r (moves w e f g)) ∙ turn h;
   }
 
-  pub shifting_stop : {q : Point3} {w : Meeting} (r : Refusal) (v : Verdict) → x < m → q ≡ point_at p (3 * x) → w ≡ meeting (pushes x [] ms) → moved_at t q w ≡ refused r → v ≡ D.Refused r →
+  pub shifting_stop : {q : Point3} {w : Meeting} (r : Refusal) (v : Outcome Unit) → x < m → q ≡ point_at p (3 * x) → w ≡ meeting (pushes x [] ms) → moved_at t q w ≡ Err r → v ≡ Err r →
       PointsMoved (move_points t ms 0 [] (points_at p 0 m)) m d₀ d v
   unfolding move_points PointsMoved
   shifting_stop {q} {w} r v h e f g u =
-      let o : move_points t ms 0 [] (points_at p 0 m) ≡ refused r = sym (turn h) ∙ stop (moved_at t (point_at p (0 + 3 * x)) (meeting (pushes x [] ms))) _ r (moves w e f g) in
+      let o : move_points t ms 0 [] (points_at p 0 m) ≡ Err r = sym (turn h) ∙ stop (moved_at t (point_at p (0 + 3 * x)) (meeting (pushes x [] ms))) _ r (moves w e f g) in
       subst (λ y. PointsMoved y m d₀ d v) (sym o) (u, shifting_size)
 
-  pub shifting_end : (v : Verdict) → m ≤ x → v ≡ D.Fine → PointsMoved (move_points t ms 0 [] (points_at p 0 m)) m d₀ d v
+  pub shifting_end : (v : Outcome Unit) → m ≤ x → v ≡ Ok tt → PointsMoved (move_points t ms 0 [] (points_at p 0 m)) m d₀ d v
   unfolding move_points PointsMoved
   shifting_end v h u =
-      let o : move_points t ms 0 [] (points_at p 0 m) ≡ ok I.list = sym (ap (move_points t ms x I.list) (sym (points_done p 0 m x h)) ∙ I.rest) in
+      let o : move_points t ms 0 [] (points_at p 0 m) ≡ Ok I.list = sym (ap (move_points t ms x I.list) (sym (points_done p 0 m x h)) ∙ I.rest) in
       subst (λ y. PointsMoved y m d₀ d v) (sym o) (u, I.long ∙ omega (arith, I.upto), I.is)
-
--- ---- the corners of a face
-
-pub record Drawing (i : List ℕ) (k c : ℕ) (qs : List Point3) (d₀ : List Float) (to : ℕ) (d : List Float) (o j : ℕ) : Type 0 where
-  pub upto : j ≤ c
-  pub place : o ≡ to + 3 * j
-  pub size : length d ≡ length d₀
-  pub rest : sets d o (floats_of (map (point_of qs) (drop j (counts_at i k c)))) ≡ sets d₀ to (floats_of (map (point_of qs) (counts_at i k c)))
-
-pub drawing_start : (i : List ℕ) (k c : ℕ) (qs : List Point3) (d : List Float) (to : ℕ) → Drawing i k c qs d to d to 0
-drawing_start i k c qs d to = record { upto = omega arith; place = omega arith; size = refl; rest = refl }
-
-module _ {i : List ℕ} {k c : ℕ} {qs : List Point3} {d₀ : List Float} {to : ℕ} {d : List Float} {o j : ℕ} (I : Drawing i k c qs d₀ to d o j) where
-  pub drawing_step : (q : Point3) (d' : List Float) → j < c → k + c ≤ length i → q ≡ point_of qs (get_or i (k + j) 0) → d' ≡ sets d o (floats q) → Drawing i k c qs d₀ to d' (o + 3) (j + 1)
-  drawing_step q d' h g e u =
-      record {
-        upto = omega arith;
-        place = omega (arith, I.place);
-        size = ap length u ∙ length-sets d o (floats q) ∙ I.size;
-        rest = ap (λ y. sets y (o + 3) (floats_of (map (point_of qs) (drop (j + 1) (counts_at i k c))))) u
-            ∙ ap (λ y. sets (sets d o (floats y)) (o + 3) (floats_of (map (point_of qs) (drop (j + 1) (counts_at i k c))))) e
-            ∙ sym (sets_point d o (point_of qs (get_or i (k + j) 0)) (map (point_of qs) (drop (j + 1) (counts_at i k c))))
-            ∙ ap (λ l. sets d o (floats_of (map (point_of qs) l))) (sym (next_count i k c j h g))
-            ∙ I.rest;
-      }
-
-  pub drawing_end : c ≤ j → d ≡ sets d₀ to (floats_of (map (point_of qs) (counts_at i k c)))
-  drawing_end h = ap (λ l. sets d o (floats_of (map (point_of qs) l))) (sym (counts_done i k c j h)) ∙ I.rest
 
 -- ---- one face
 
-module _ (t : Precision) (qs : List Point3) (m : Moving) (to : ℕ) (d₀ d : List Float) (v : Verdict) where
-  pub face_moved : (w : Plane) (e : List Float) → moved_plane t m.face.plane m.by ≡ ok w → v ≡ D.Fine → e ≡ sets d₀ to (plane_floats w) → d ≡ sets e (to + 13) (floats_of (map (point_of qs) m.places)) →
+module _ (t : Precision) (qs : List Point3) (m : Moving) (to : ℕ) (d₀ d : List Float) (v : Outcome Unit) where
+  pub face_moved : (w : Plane) (e : List Float) → moved_plane t m.face.plane m.by ≡ Ok w → v ≡ Ok tt → e ≡ sets d₀ to (plane_floats w) → d ≡ sets e (to + 13) (floats_of (map (point_of qs) m.places)) →
       FaceMoved (move_face t qs m) to d₀ d v
   unfolding move_face FaceMoved
   face_moved w e p u f g =
-      subst (λ y. FaceMoved (then y (λ w. ok (record { plane = w; points = map (point_of qs) m.places }))) to d₀ d v) (sym p)
+      subst (λ y. FaceMoved (then y (λ w. Ok (record { plane = w; points = map (point_of qs) m.places }))) to d₀ d v) (sym p)
       (u, g ∙ ap (λ y. sets y (to + 13) (floats_of (map (point_of qs) m.places))) f ∙ sets_append d₀ to (plane_floats w) (floats_of (map (point_of qs) m.places)))
 
-  pub face_refused : (r : Refusal) → moved_plane t m.face.plane m.by ≡ refused r → v ≡ D.Refused r → length d ≡ length d₀ → FaceMoved (move_face t qs m) to d₀ d v
+  pub face_refused : (r : Refusal) → moved_plane t m.face.plane m.by ≡ Err r → v ≡ Err r → length d ≡ length d₀ → FaceMoved (move_face t qs m) to d₀ d v
   unfolding move_face FaceMoved
-  face_refused r p u s = subst (λ y. FaceMoved (then y (λ w. ok (record { plane = w; points = map (point_of qs) m.places }))) to d₀ d v) (sym p) (u, s)
+  face_refused r p u s = subst (λ y. FaceMoved (then y (λ w. Ok (record { plane = w; points = map (point_of qs) m.places }))) to d₀ d v) (sym p) (u, s)
 
-pub face_made : (o : Outcome Face) (to : ℕ) (d₀ d : List Float) (v : Verdict) → FaceMoved o to d₀ d v → v ≡ D.Fine → (f : Face) × (o ≡ ok f) × (d ≡ sets d₀ to (face_floats f))
+pub face_made : (o : Outcome Face) (to : ℕ) (d₀ d : List Float) (v : Outcome Unit) → FaceMoved o to d₀ d v → v ≡ Ok tt → (f : Face) × (o ≡ Ok f) × (d ≡ sets d₀ to (face_floats f))
 unfolding FaceMoved
-face_made (ok f) to d₀ d v h e = (f, refl, h.1)
-face_made (refused r) to d₀ d v h e = absurd (let a = h.0 in let z : ◌≡◌ {A = ℕ} 0 1 = cc in omega arith)
+face_made (Ok f) to d₀ d v h e = (f, refl, h.1)
+face_made (Err r) to d₀ d v h e = absurd (let a = h.0 in let z : ◌≡◌ {A = ℕ} 0 1 = cc in omega arith)
 
-pub face_not : (o : Outcome Face) (to : ℕ) (d₀ d : List Float) (v : Verdict) (r : Refusal) → FaceMoved o to d₀ d v → v ≡ D.Refused r → (o ≡ refused r) × (length d ≡ length d₀)
+pub face_not : (o : Outcome Face) (to : ℕ) (d₀ d : List Float) (v : Outcome Unit) (r : Refusal) → FaceMoved o to d₀ d v → v ≡ Err r → (o ≡ Err r) × (length d ≡ length d₀)
 unfolding FaceMoved
-face_not (ok f) to d₀ d v r h e = absurd (let a = h.0 in let z : ◌≡◌ {A = ℕ} 0 1 = cc in omega arith)
-face_not (refused y) to d₀ d v r h e = (let a = h.0 in let b : y ≡ r = cc in ap refused b, h.1)
+face_not (Ok f) to d₀ d v r h e = absurd (let a = h.0 in let z : ◌≡◌ {A = ℕ} 0 1 = cc in omega arith)
+face_not (Err y) to d₀ d v r h e = (let a = h.0 in let b : y ≡ r = cc in ap Err b, h.1)
 
 -- a face keeps its number of corners
-moved_corners : (t : Precision) (qs : List Point3) (m : Moving) (f : Face) → move_face t qs m ≡ ok f → length f.points ≡ length m.places
+moved_corners : (t : Precision) (qs : List Point3) (m : Moving) (f : Face) → move_face t qs m ≡ Ok f → length f.points ≡ length m.places
 unfolding move_face
 moved_corners t qs m f e =
-    let g = then_ok (moved_plane t m.face.plane m.by) (λ w. ok (record { plane = w; points = map (point_of qs) m.places })) f e in
+    let g = then_ok (moved_plane t m.face.plane m.by) (λ w. Ok (record { plane = w; points = map (point_of qs) m.places })) f e in
     ap (λ y. length y.points) (sym (same_ok g.2)) ∙ length-map m.places (point_of qs)
 
 -- ---- a cell that grows in two slices
@@ -283,8 +253,8 @@ module _ {A : Type 0} {f : A → Outcome Face} {whole : List A} {counts : List �
     pub listing_fits : q + 13 + 3 * get_or counts (first + j) 0 ≤ length d
     listing_fits = omega (arith, listing_size, within_le _ _ _ (within_rest (get_or counts (first + j) 0) (drop (j + 1) (counts_at counts first n)) q (length d₀) here))
 
-    pub listing_step : (x : A) (l : List A) (d' : List Float) (ns' : List ℕ) (v : Verdict) → rest ≡ x ∷ l → FaceMoved (f x) q d d' v → v ≡ D.Fine →
-        ((g : Face) → f x ≡ ok g → length g.points ≡ get_or counts (first + j) 0) → ns' ≡ set ns (k + j) (get_or counts (first + j) 0) →
+    pub listing_step : (x : A) (l : List A) (d' : List Float) (ns' : List ℕ) (v : Outcome Unit) → rest ≡ x ∷ l → FaceMoved (f x) q d d' v → v ≡ Ok tt →
+        ((g : Face) → f x ≡ Ok g → length g.points ≡ get_or counts (first + j) 0) → ns' ≡ set ns (k + j) (get_or counts (first + j) 0) →
         Listing f whole counts first n d₀ to n₀ k d' ns' (q + 13 + 3 * get_or counts (first + j) 0) (j + 1) l
     listing_step x l d' ns' v r m e w u =
         let g = face_made (f x) q d d' v m e in
@@ -295,17 +265,17 @@ module _ {A : Type 0} {f : A → Outcome Face} {whole : List A} {counts : List �
           still = sym (each_go f I.cell x l g.0 g.1) ∙ ap (each f I.cell) (sym r) ∙ I.still;
         }
 
-    pub listing_stop : (x : A) (l : List A) (d' : List Float) (v v' : Verdict) (y : Refusal) → rest ≡ x ∷ l → FaceMoved (f x) q d d' v → v ≡ D.Refused y → v' ≡ D.Refused y → CellMoved (each f [] whole) n d₀ to n₀ k d' ns v'
+    pub listing_stop : (x : A) (l : List A) (d' : List Float) (v v' : Outcome Unit) (y : Refusal) → rest ≡ x ∷ l → FaceMoved (f x) q d d' v → v ≡ Err y → v' ≡ Err y → CellMoved (each f [] whole) n d₀ to n₀ k d' ns v'
     unfolding CellMoved
     listing_stop x l d' v v' y r m e e' =
         let g = face_not (f x) q d d' v y m e in
-        let z : each f [] whole ≡ refused y = sym I.still ∙ ap (each f I.cell) r ∙ each_stop f I.cell x l y g.0 in
+        let z : each f [] whole ≡ Err y = sym I.still ∙ ap (each f I.cell) r ∙ each_stop f I.cell x l y g.0 in
         subst (λ o. CellMoved o n d₀ to n₀ k d' ns v') (sym z) (e', g.1 ∙ listing_size, listing_slots)
 
-  pub listing_end : (v : Verdict) → n ≤ j → j ≤ n → rest ≡ [] → v ≡ D.Fine → CellMoved (each f [] whole) n d₀ to n₀ k d ns v
+  pub listing_end : (v : Outcome Unit) → n ≤ j → j ≤ n → rest ≡ [] → v ≡ Ok tt → CellMoved (each f [] whole) n d₀ to n₀ k d ns v
   unfolding CellMoved
   listing_end v h g r e =
-      let z : each f [] whole ≡ ok I.cell = sym I.still ∙ ap (each f I.cell) r ∙ each_end f I.cell in
+      let z : each f [] whole ≡ Ok I.cell = sym I.still ∙ ap (each f I.cell) r ∙ each_end f I.cell in
       let w : j ≡ n = omega arith in
       subst (λ o. CellMoved o n d₀ to n₀ k d ns v) (sym z)
       (e, I.grown.floats, I.grown.counts, I.grown.faces ∙ w, omega (arith, I.grown.place, within_le _ q (length d₀) I.within), I.grown.small)
@@ -327,21 +297,21 @@ module _ {t : Precision} {qs : List Point3} {s : List Float} {at : ℕ} {counts 
     pub building_fits : q + 13 + 3 * get_or counts (first + j) 0 ≤ length d
     building_fits = listing_fits I.listing given.lies.listed h
 
-    sized : (g : Face) → move_face t qs (moving_face s by i o p (get_or counts (first + j) 0) j) ≡ ok g → length g.points ≡ get_or counts (first + j) 0
+    sized : (g : Face) → move_face t qs (moving_face s by i o p (get_or counts (first + j) 0) j) ≡ Ok g → length g.points ≡ get_or counts (first + j) 0
     sized g e =
         moved_corners t qs (moving_face s by i o p (get_or counts (first + j) 0) j) g e
         ∙ length-take (get_or counts (first + j) 0) (drop p i) ∙ omega (arith, length-drop p i, along_few given h I.along)
 
-    pub building_step : (d' : List Float) (ns' : List ℕ) (v : Verdict) → FaceMoved (move_face t qs (moving_face s by i o p (get_or counts (first + j) 0) j)) q d d' v → v ≡ D.Fine → ns' ≡ set ns (k + j) (get_or counts (first + j) 0) →
+    pub building_step : (d' : List Float) (ns' : List ℕ) (v : Outcome Unit) → FaceMoved (move_face t qs (moving_face s by i o p (get_or counts (first + j) 0) j)) q d d' v → v ≡ Ok tt → ns' ≡ set ns (k + j) (get_or counts (first + j) 0) →
         Building t qs s at counts first n by i d₀ to n₀ k d' ns' (o + 13 + 3 * get_or counts (first + j) 0) (p + get_or counts (first + j) 0) (q + 13 + 3 * get_or counts (first + j) 0) (j + 1)
     building_step d' ns' v m e u = record {
       along = along_step given h I.along;
       listing = listing_step I.listing given.lies.listed h (moving_face s by i o p (get_or counts (first + j) 0) j) _ d' ns' v (along_next given h I.along) m e sized u;
     }
 
-    pub building_stop : (d' : List Float) (v v' : Verdict) (r : Refusal) → FaceMoved (move_face t qs (moving_face s by i o p (get_or counts (first + j) 0) j)) q d d' v → v ≡ D.Refused r → v' ≡ D.Refused r →
+    pub building_stop : (d' : List Float) (v v' : Outcome Unit) (r : Refusal) → FaceMoved (move_face t qs (moving_face s by i o p (get_or counts (first + j) 0) j)) q d d' v → v ≡ Err r → v' ≡ Err r →
         CellMoved (each (move_face t qs) [] (moving_at s at counts first n by i)) n d₀ to n₀ k d' ns v'
     building_stop d' v v' r m e e' = listing_stop I.listing given.lies.listed h (moving_face s by i o p (get_or counts (first + j) 0) j) _ d' v v' r (along_next given h I.along) m e e'
 
-  pub building_end : (v : Verdict) → n ≤ j → v ≡ D.Fine → CellMoved (each (move_face t qs) [] (moving_at s at counts first n by i)) n d₀ to n₀ k d ns v
+  pub building_end : (v : Outcome Unit) → n ≤ j → v ≡ Ok tt → CellMoved (each (move_face t qs) [] (moving_at s at counts first n by i)) n d₀ to n₀ k d ns v
   building_end v h e = listing_end I.listing v h I.along.ahead.upto (along_done s counts first n by i o p j h) e

@@ -1,7 +1,7 @@
 -- `offset_distances` and `offset`: 2; 6; 24, 25, 26 point by point; 5 face by face; 7 and 27. Definitions only.
-use Rattle.std.specs.Prelude.{ℕ, suc, true, false, not, List, [], ◌∷◌, ◌++◌, map, length, replicate, Float}
+use Rattle.std.specs.Prelude.{ℕ, suc, true, false, not, List, [], ◌∷◌, ◌++◌, map, length, replicate, Float, Ok}
 use Rattle.float.specs.Float.{finite}
-use Rattle.refusal.specs.Outcome.{Outcome, ok, then, unless, each, heard}
+use Rattle.refusal.specs.Outcome.{Outcome, then, unless, each, heard}
 use Rattle.lists.specs.Walks.{all}
 use Rattle.space.specs.declared.Point3.{Point3}
 use Rattle.space.specs.declared.Precision.{Precision}
@@ -32,12 +32,12 @@ pushes x l (m ∷ ms) = pushes x (push_if (has x false m.places) l (push_of m.fa
 
 -- 24, 25, 26: each point in `indexed` order, from place x on
 unfoldable pub move_points : Precision → List Moving → ℕ → List Point3 → List Point3 → Outcome (List Point3)
-move_points t ms x qs [] = ok qs
+move_points t ms x qs [] = Ok qs
 move_points t ms x qs (p ∷ ps) = then (moved_at t p (meeting (pushes x [] ms))) (λ q. move_points t ms (suc x) (qs ++ (q ∷ [])) ps)
 
 -- 5: a face on its moved plane
 unfoldable pub move_face : Precision → List Point3 → Moving → Outcome Face
-move_face t qs m = then (moved_plane t m.face.plane m.by) (λ w. ok (record { plane = w; points = map (point_of qs) m.places }))
+move_face t qs m = then (moved_plane t m.face.plane m.by) (λ w. Ok (record { plane = w; points = map (point_of qs) m.places }))
 
 -- 7, 27: no corner is Positive against any moved plane
 unfoldable pub not_crossed : Precision → Cell → Outcome Cell

@@ -1,13 +1,11 @@
 -- What holds whenever an offset answers: no moved corner is certified Positive against a moved plane, and each residual lies inside the tube.
-use Rattle.std.specs.Prelude.{◌≡◌, refl, true, false, not, List, [], ◌∷◌, ◌++◌, map, ℕ, suc, length, replicate, eqb, Float}
+use Rattle.std.specs.Prelude.{◌≡◌, refl, true, false, not, List, [], ◌∷◌, ◌++◌, map, ℕ, suc, length, replicate, eqb, Float, Ok, Err}
 use Rattle.std.proofs.Common.{sym, ap, ◌∙◌, subst, append_assoc, append-nil, arith, eqb-true}
 use Rattle.std.proofs.lemmas.List.{length-map, length-replicate}
 use Rattle.std.proofs.lemmas.Bool.{not-false}
 use Rattle.float.specs.Float.{finite}
 use Rattle.lists.specs.Walks.{all}
-use Rattle.refusal.specs.declared.Verdict.{Verdict}
-use Rattle.refusal.specs.declared.Verdict.TheVariants as D
-use Rattle.refusal.specs.Outcome.{ok, then, each, heard}
+use Rattle.refusal.specs.Outcome.{Outcome, then, each, heard}
 use Rattle.refusal.specs.Laws.{same_ok, never_ok, then_ok, unless_ok}
 use Rattle.refusal.specs.Tests.{or_false}
 use Rattle.space.specs.declared.Point3.{Point3}
@@ -35,11 +33,11 @@ pub record Inside (t : Precision) (p q : Point3) (l : List Push) : Type 0 where
   pub three : length l ≡ 3
   pub each_in : All (λ n. outside t (residual (sub_v q p) n) ≡ false) l
 
-to_inside : (t : Precision) (a b c : Push) (p n q : Point3) → moved_by t a b c p n ≡ ok q → Inside t p q (a ∷ b ∷ c ∷ [])
+to_inside : (t : Precision) (a b c : Push) (p n q : Point3) → moved_by t a b c p n ≡ Ok q → Inside t p q (a ∷ b ∷ c ∷ [])
 unfolding moved_by moved_to All
 to_inside t a b c p n q e =
     let f = unless_ok (flat a n) 25 (moved_to t a b c p (add_v p (delta_of a b c n))) q e in
-    let g = unless_ok _ 26 (ok (add_v p (delta_of a b c n))) q f.1 in
+    let g = unless_ok _ 26 (Ok (add_v p (delta_of a b c n))) q f.1 in
     let r = add_v p (delta_of a b c n) in
     let s : add_v p (delta_of a b c n) ≡ q = same_ok g.1 in
     let x = or_false (outside t (residual (sub_v r p) a)) _ g.0 in
@@ -47,11 +45,11 @@ to_inside t a b c p n q e =
     let move : (h : Push) → outside t (residual (sub_v r p) h) ≡ false → outside t (residual (sub_v q p) h) ≡ false = λ h w. ap (λ z. outside t (residual (sub_v z p) h)) (sym s) ∙ w in
     record { three = refl; each_in = (move a x.0, (move b y.0, (move c y.1, tt))) }
 
-not_three : (t : Precision) (p q : Point3) (l : List Push) → moved_at t p (meeting l) ≡ ok q → length l ≡ 3
+not_three : (t : Precision) (p q : Point3) (l : List Push) → moved_at t p (meeting l) ≡ Ok q → length l ≡ 3
 unfolding moved_at meeting
 not_three t p q l e = eqb-true (length l) 3 (not-false _ (unless_ok (not (eqb (length l) 3)) 24 _ q e).0)
 
-point_inside : (t : Precision) (p q : Point3) (l : List Push) → moved_at t p (meeting l) ≡ ok q → Inside t p q l
+point_inside : (t : Precision) (p q : Point3) (l : List Push) → moved_at t p (meeting l) ≡ Ok q → Inside t p q l
 unfolding moved_at meeting
 point_inside t p q [] e = absurd (omega (arith, not_three t p q [] e))
 point_inside t p q (a ∷ []) e = absurd (omega (arith, not_three t p q (a ∷ []) e))
@@ -67,7 +65,7 @@ Moves t ms x [] (q ∷ qs) = ⊥
 Moves t ms x (p ∷ ps) [] = ⊥
 Moves t ms x (p ∷ ps) (q ∷ qs) = Inside t p q (pushes x [] ms) × Moves t ms (suc x) ps qs
 
-points_inside : (t : Precision) (ms : List Moving) (x : ℕ) (before ps qs : List Point3) → move_points t ms x before ps ≡ ok qs → (rs : List Point3) × (qs ≡ before ++ rs) × Moves t ms x ps rs
+points_inside : (t : Precision) (ms : List Moving) (x : ℕ) (before ps qs : List Point3) → move_points t ms x before ps ≡ Ok qs → (rs : List Point3) × (qs ≡ before ++ rs) × Moves t ms x ps rs
 unfolding move_points Moves
 points_inside t ms x before [] qs e = ([], sym (same_ok e) ∙ sym (append-nil before), tt)
 points_inside t ms x before (p ∷ ps) qs e =
@@ -81,18 +79,18 @@ points_inside t ms x before (p ∷ ps) qs e =
 pub record Answered (t : Precision) (ds : List Float) (c e : Cell) : Type 0 where
   pub solid : Solid
   pub points : List Point3
-  pub is : indexed t c ≡ ok solid
+  pub is : indexed t c ≡ Ok solid
   pub finite_all : all finite true ds ≡ true
   pub inside : Moves t (moving c solid.faces ds) 0 solid.points points
-  pub faces : each (move_face t points) [] (moving c solid.faces ds) ≡ ok e
-  pub under : All (λ f. All (λ q. All (λ b. side_of t b.plane q ≡ S.Positive → ⊥) e) f.points) e
+  pub faces : each (move_face t points) [] (moving c solid.faces ds) ≡ Ok e
+  pub under : All (λ f. All (λ q. All (λ b. side_of t b.plane q ≡ Ok S.Positive → ⊥) e) f.points) e
 
-pub heard_ok : {A : Type 0} (v : Verdict) (a b : A) → heard v a ≡ ok b → (v ≡ D.Fine) × (a ≡ b)
+pub heard_ok : {A : Type 0} (v : Outcome Unit) (a b : A) → heard v a ≡ Ok b → (v ≡ Ok tt) × (a ≡ b)
 unfolding heard
-heard_ok D.Fine a b e = (refl, same_ok e)
-heard_ok (D.Refused r) a b e = never_ok e
+heard_ok (Ok tt) a b e = (refl, same_ok e)
+heard_ok (Err r) a b e = never_ok e
 
-pub offset_answered : (t : Precision) (ds : List Float) (c e : Cell) → offset_distances t ds c ≡ ok e → Answered t ds c e
+pub offset_answered : (t : Precision) (ds : List Float) (c e : Cell) → offset_distances t ds c ≡ Ok e → Answered t ds c e
 unfolding offset_distances move_all not_crossed
 offset_answered t ds c e h =
     let f = unless_ok (not (all finite true ds)) 2 _ e h in
@@ -108,7 +106,7 @@ offset_answered t ds c e h =
       is = g.1;
       finite_all = not-false _ f.0;
       inside = subst (Moves t ms 0 g.0.points) (sym m.1) m.2;
-      faces = w.1 ∙ ap ok y.1;
+      faces = w.1 ∙ ap Ok y.1;
       under = against_not_positive t e e (ap (λ z. against false t z z) (sym y.1) ∙ y.0);
     }
 
@@ -118,12 +116,12 @@ sizes : List Moving → List ℕ
 sizes [] = []
 sizes (m ∷ ms) = length m.places ∷ sizes ms
 
-moved_sizes : (t : Precision) (qs : List Point3) (ms : List Moving) (before e : Cell) → each (move_face t qs) before ms ≡ ok e → cell_counts e ≡ cell_counts before ++ sizes ms
+moved_sizes : (t : Precision) (qs : List Point3) (ms : List Moving) (before e : Cell) → each (move_face t qs) before ms ≡ Ok e → cell_counts e ≡ cell_counts before ++ sizes ms
 unfolding each move_face sizes
 moved_sizes t qs [] before e h = ap cell_counts (sym (same_ok h)) ∙ sym (append-nil (cell_counts before))
 moved_sizes t qs (m ∷ ms) before e h =
     let f = then_ok (move_face t qs m) (λ y. each (move_face t qs) (before ++ (y ∷ [])) ms) e h in
-    let g = then_ok (moved_plane t m.face.plane m.by) (λ w. ok (record { plane = w; points = map (point_of qs) m.places })) f.0 f.1 in
+    let g = then_ok (moved_plane t m.face.plane m.by) (λ w. Ok (record { plane = w; points = map (point_of qs) m.places })) f.0 f.1 in
     let l : length f.0.points ≡ length m.places = ap (λ x. length x.points) (sym (same_ok g.2)) ∙ length-map m.places (point_of qs) in
     moved_sizes t qs ms (before ++ (f.0 ∷ [])) e f.2
     ∙ ap (λ x. x ++ sizes ms) (cell_counts_snoc before f.0)
@@ -138,7 +136,7 @@ moving_sizes (f ∷ c) [] ds e h = absurd (omega (arith, e))
 moving_sizes (f ∷ c) (i ∷ is) [] e h = absurd (omega (arith, h))
 moving_sizes (f ∷ c) (i ∷ is) (d ∷ ds) e h = ap (λ l. length i ∷ l) (moving_sizes c is ds (omega (arith, e)) (omega (arith, h)))
 
-pub offset_counts : (t : Precision) (d : Float) (c e : Cell) → offset_cell t d c ≡ ok e → cell_counts e ≡ cell_counts c
+pub offset_counts : (t : Precision) (d : Float) (c e : Cell) → offset_cell t d c ≡ Ok e → cell_counts e ≡ cell_counts c
 unfolding offset_cell cell_counts
 offset_counts t d c e h =
     let a = offset_answered t (replicate (length c) d) c e h in

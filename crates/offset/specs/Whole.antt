@@ -1,7 +1,7 @@
 -- Laws of the whole offset: its stages one after another.
 use Rattle.std.proofs.Math.Path.{◌≡◌, refl, sym, ap, subst}
 use Rattle.std.proofs.Common.{◌∙◌, arith}
-use Rattle.std.specs.Prelude.{true, not, ℕ, ◌+◌, ◌*◌, ◌≤◌, drop, Float}
+use Rattle.std.specs.Prelude.{true, not, ℕ, ◌+◌, ◌*◌, ◌≤◌, drop, Float, Ok, Err}
 use Rattle.std.proofs.Math.Bool.{false}
 use mathlib.Core.List.{List, [], ◌++◌}
 use Rattle.std.proofs.Math.ListN.{length, take, replicate, length-drop, length-take}
@@ -11,9 +11,7 @@ use Rattle.std.proofs.Math.Seq.{length-sets, take_at}
 use Rattle.float.specs.Float.{finite}
 use Rattle.lists.specs.Walks.{all}
 use Rattle.refusal.specs.declared.Refusal.{Refusal}
-use Rattle.refusal.specs.declared.Verdict.{Verdict}
-use Rattle.refusal.specs.declared.Verdict.TheVariants as D
-use Rattle.refusal.specs.Outcome.{Outcome, ok, refused, refusal_of, then, unless, each, heard}
+use Rattle.refusal.specs.Outcome.{Outcome, refusal_of, then, unless, each, heard}
 use Rattle.refusal.specs.Laws.{stop, go}
 use Rattle.space.specs.declared.Point3.{Point3}
 use Rattle.space.specs.declared.Precision.{Precision}
@@ -21,8 +19,6 @@ use Rattle.space.specs.Shapes.{Cell, corners}
 use Rattle.polygon.specs.Memory.{floats_of, points_at}
 use Rattle.room.specs.Rooms.{cell_floats, cell_counts, cell_at, counts_at, Within}
 use Rattle.room.specs.Laws.{points_stored, cell_stored, within_stored, length_cell_floats, length_cell_counts, cell_counts_lem}
-use Rattle.indexed.specs.declared.Counted.{Counted}
-use Rattle.indexed.specs.declared.Counted.TheVariants as C
 use Rattle.indexed.specs.Indexed.{indexed}
 use Rattle.indexed.specs.Stored.{flat, Stored}
 use Rattle.solids.specs.Frames.{faces_at}
@@ -33,39 +29,39 @@ use Rattle.offset.specs.Indexes.{run_back, placing_fits, stored_made, stored_not
 
 -- ---- what the answers of the stages say
 
-points_made : (o : Outcome (List Point3)) (m : ℕ) (d₀ d : List Float) (v : Verdict) → PointsMoved o m d₀ d v → v ≡ D.Fine → (qs : List Point3) × (o ≡ ok qs) × (length qs ≡ m) × (d ≡ sets d₀ 0 (floats_of qs))
+points_made : (o : Outcome (List Point3)) (m : ℕ) (d₀ d : List Float) (v : Outcome Unit) → PointsMoved o m d₀ d v → v ≡ Ok tt → (qs : List Point3) × (o ≡ Ok qs) × (length qs ≡ m) × (d ≡ sets d₀ 0 (floats_of qs))
 unfolding PointsMoved
-points_made (ok qs) m d₀ d v h e = (qs, refl, h.1, h.2)
-points_made (refused r) m d₀ d v h e = absurd (let a = h.0 in let z : ◌≡◌ {A = ℕ} 0 1 = cc in omega arith)
+points_made (Ok qs) m d₀ d v h e = (qs, refl, h.1, h.2)
+points_made (Err r) m d₀ d v h e = absurd (let a = h.0 in let z : ◌≡◌ {A = ℕ} 0 1 = cc in omega arith)
 
-pub points_size : (o : Outcome (List Point3)) (m : ℕ) (d₀ d : List Float) (v : Verdict) → PointsMoved o m d₀ d v → length d ≡ length d₀
+pub points_size : (o : Outcome (List Point3)) (m : ℕ) (d₀ d : List Float) (v : Outcome Unit) → PointsMoved o m d₀ d v → length d ≡ length d₀
 unfolding PointsMoved
-points_size (ok qs) m d₀ d v h = ap length h.2 ∙ length-sets d₀ 0 (floats_of qs)
-points_size (refused r) m d₀ d v h = h.1
+points_size (Ok qs) m d₀ d v h = ap length h.2 ∙ length-sets d₀ 0 (floats_of qs)
+points_size (Err r) m d₀ d v h = h.1
 
-points_not : (o : Outcome (List Point3)) (m : ℕ) (d₀ d : List Float) (v : Verdict) (r : Refusal) → PointsMoved o m d₀ d v → v ≡ D.Refused r → o ≡ refused r
+points_not : (o : Outcome (List Point3)) (m : ℕ) (d₀ d : List Float) (v : Outcome Unit) (r : Refusal) → PointsMoved o m d₀ d v → v ≡ Err r → o ≡ Err r
 unfolding PointsMoved
-points_not (ok qs) m d₀ d v r h e = absurd (let a = h.0 in let z : ◌≡◌ {A = ℕ} 0 1 = cc in omega arith)
-points_not (refused y) m d₀ d v r h e = let a = h.0 in let b : y ≡ r = cc in ap refused b
+points_not (Ok qs) m d₀ d v r h e = absurd (let a = h.0 in let z : ◌≡◌ {A = ℕ} 0 1 = cc in omega arith)
+points_not (Err y) m d₀ d v r h e = let a = h.0 in let b : y ≡ r = cc in ap Err b
 
 module _ (n : ℕ) (d₀ : List Float) (to : ℕ) (n₀ : List ℕ) (k : ℕ) (d : List Float) (ns : List ℕ) where
-  pub cell_size : (o : Outcome Cell) (v : Verdict) → CellMoved o n d₀ to n₀ k d ns v → (length d ≡ length d₀) × (length ns ≡ length n₀)
+  pub cell_size : (o : Outcome Cell) (v : Outcome Unit) → CellMoved o n d₀ to n₀ k d ns v → (length d ≡ length d₀) × (length ns ≡ length n₀)
   unfolding CellMoved
-  cell_size (ok c) v h = (ap length h.1 ∙ length-sets d₀ to (cell_floats c), ap length h.2 ∙ length-sets n₀ k (cell_counts c))
-  cell_size (refused r) v h = (h.1, h.2)
+  cell_size (Ok c) v h = (ap length h.1 ∙ length-sets d₀ to (cell_floats c), ap length h.2 ∙ length-sets n₀ k (cell_counts c))
+  cell_size (Err r) v h = (h.1, h.2)
 
-  pub cell_not : (o : Outcome Cell) (v : Verdict) (r : Refusal) → CellMoved o n d₀ to n₀ k d ns v → v ≡ D.Refused r → o ≡ refused r
+  pub cell_not : (o : Outcome Cell) (v : Outcome Unit) (r : Refusal) → CellMoved o n d₀ to n₀ k d ns v → v ≡ Err r → o ≡ Err r
   unfolding CellMoved
-  cell_not (ok c) v r h e = absurd (let a = h.0 in let z : ◌≡◌ {A = ℕ} 0 1 = cc in omega arith)
-  cell_not (refused y) v r h e = let a = h.0 in let b : y ≡ r = cc in ap refused b
+  cell_not (Ok c) v r h e = absurd (let a = h.0 in let z : ◌≡◌ {A = ℕ} 0 1 = cc in omega arith)
+  cell_not (Err y) v r h e = let a = h.0 in let b : y ≡ r = cc in ap Err b
 
-  pub cell_made : (o : Outcome Cell) (v : Verdict) → CellMoved o n d₀ to n₀ k d ns v → v ≡ D.Fine → (c : Cell) × (o ≡ ok c) × CellMoved (ok c) n d₀ to n₀ k d ns v
+  pub cell_made : (o : Outcome Cell) (v : Outcome Unit) → CellMoved o n d₀ to n₀ k d ns v → v ≡ Ok tt → (c : Cell) × (o ≡ Ok c) × CellMoved (Ok c) n d₀ to n₀ k d ns v
   unfolding CellMoved
-  cell_made (ok c) v h e = (c, refl, h)
-  cell_made (refused r) v h e = absurd (let a = h.0 in let z : ◌≡◌ {A = ℕ} 0 1 = cc in omega arith)
+  cell_made (Ok c) v h e = (c, refl, h)
+  cell_made (Err r) v h e = absurd (let a = h.0 in let z : ◌≡◌ {A = ℕ} 0 1 = cc in omega arith)
 
   -- the moved cell is read back
-  module _ (c : Cell) (v : Verdict) (h : CellMoved (ok c) n d₀ to n₀ k d ns v) (slots : k + n ≤ length n₀) where
+  module _ (c : Cell) (v : Outcome Unit) (h : CellMoved (Ok c) n d₀ to n₀ k d ns v) (slots : k + n ≤ length n₀) where
     pub counts_are : counts_at ns k n ≡ cell_counts c
     unfolding CellMoved
     counts_are =
@@ -83,29 +79,29 @@ module _ (n : ℕ) (d₀ : List Float) (to : ℕ) (n₀ : List ℕ) (k : ℕ) (d
     pub cell_lies : Lies d to ns k n
     unfolding CellMoved
     cell_lies = record {
-      listed = omega (arith, slots, (cell_size (ok c) v h).1);
-      within = subst (λ l. Within l to (length d)) (sym counts_are) (within_stored c to (length d) h.5 (omega (arith, inside, (cell_size (ok c) v h).0)));
+      listed = omega (arith, slots, (cell_size (Ok c) v h).1);
+      within = subst (λ l. Within l to (length d)) (sym counts_are) (within_stored c to (length d) h.5 (omega (arith, inside, (cell_size (Ok c) v h).0)));
     }
 
-  pub faces_lie : (o : Outcome Cell) (v : Verdict) → CellMoved o n d₀ to n₀ k d ns v → v ≡ D.Fine → k + n ≤ length n₀ → Lies d to ns k n
+  pub faces_lie : (o : Outcome Cell) (v : Outcome Unit) → CellMoved o n d₀ to n₀ k d ns v → v ≡ Ok tt → k + n ≤ length n₀ → Lies d to ns k n
   faces_lie o v h e slots = let g = cell_made o v h e in cell_lies g.0 v g.2 slots
 
   -- a verdict on the cell
-  judged_cell : (c : Cell) (v w : Verdict) → CellMoved (ok c) n d₀ to n₀ k d ns v → CellMoved (heard w c) n d₀ to n₀ k d ns w
+  judged_cell : (c : Cell) (v w : Outcome Unit) → CellMoved (Ok c) n d₀ to n₀ k d ns v → CellMoved (heard w c) n d₀ to n₀ k d ns w
   unfolding CellMoved heard
-  judged_cell c v D.Fine h = (refl, h.1, h.2, h.3, h.4, h.5)
-  judged_cell c v (D.Refused r) h = (refl, ap length h.1 ∙ length-sets d₀ to (cell_floats c), ap length h.2 ∙ length-sets n₀ k (cell_counts c))
+  judged_cell c v (Ok tt) h = (refl, h.1, h.2, h.3, h.4, h.5)
+  judged_cell c v (Err r) h = (refl, ap length h.1 ∙ length-sets d₀ to (cell_floats c), ap length h.2 ∙ length-sets n₀ k (cell_counts c))
 
 -- ---- the three stages
 
-module _ (t : Precision) (ms : List Moving) (ps : List Point3) (n : ℕ) (to k : ℕ) (m : ℕ) (e₀ e : List Float) (v : Verdict) (P : PointsMoved (move_points t ms 0 [] ps) m e₀ e v) where
-  pub all_not_points : (d : List Float) (ns : List ℕ) (r : Refusal) → v ≡ D.Refused r → CellMoved (move_all t ms ps) n d to ns k d ns v
+module _ (t : Precision) (ms : List Moving) (ps : List Point3) (n : ℕ) (to k : ℕ) (m : ℕ) (e₀ e : List Float) (v : Outcome Unit) (P : PointsMoved (move_points t ms 0 [] ps) m e₀ e v) where
+  pub all_not_points : (d : List Float) (ns : List ℕ) (r : Refusal) → v ≡ Err r → CellMoved (move_all t ms ps) n d to ns k d ns v
   unfolding move_all CellMoved
   all_not_points d ns r w =
-      let z : move_all t ms ps ≡ refused r = stop (move_points t ms 0 [] ps) _ r (points_not _ m e₀ e v r P w) in
+      let z : move_all t ms ps ≡ Err r = stop (move_points t ms 0 [] ps) _ r (points_not _ m e₀ e v r P w) in
       subst (λ y. CellMoved y n d to ns k d ns v) (sym z) (w, refl, refl)
 
-  module _ (w : v ≡ D.Fine) (room : 3 * m ≤ length e₀) (d₀ : List Float) (n₀ : List ℕ) (d : List Float) (ns : List ℕ) (u : Verdict)
+  module _ (w : v ≡ Ok tt) (room : 3 * m ≤ length e₀) (d₀ : List Float) (n₀ : List ℕ) (d : List Float) (ns : List ℕ) (u : Outcome Unit)
       (F : CellMoved (each (move_face t (points_at e 0 m)) [] ms) n d₀ to n₀ k d ns u) where
     onward : move_all t ms ps ≡ then (each (move_face t (points_at e 0 m)) [] ms) (not_crossed t)
     unfolding move_all
@@ -114,14 +110,14 @@ module _ (t : Precision) (ms : List Moving) (ps : List Point3) (n : ℕ) (to k :
         let q : points_at e 0 m ≡ g.0 = ap (λ l. points_at l 0 m) g.3 ∙ ap (points_at (sets e₀ 0 (floats_of g.0)) 0) (sym g.2) ∙ points_stored e₀ g.0 (omega (arith, g.2)) in
         go (move_points t ms 0 [] ps) _ g.0 g.1 ∙ ap (λ l. then (each (move_face t l) [] ms) (not_crossed t)) (sym q)
 
-    pub all_not_faces : (r : Refusal) → u ≡ D.Refused r → CellMoved (move_all t ms ps) n d₀ to n₀ k d ns u
+    pub all_not_faces : (r : Refusal) → u ≡ Err r → CellMoved (move_all t ms ps) n d₀ to n₀ k d ns u
     unfolding CellMoved
     all_not_faces r x =
-        let z : move_all t ms ps ≡ refused r = onward ∙ stop (each (move_face t (points_at e 0 m)) [] ms) (not_crossed t) r (cell_not n d₀ to n₀ k d ns (each (move_face t (points_at e 0 m)) [] ms) u r F x) in
+        let z : move_all t ms ps ≡ Err r = onward ∙ stop (each (move_face t (points_at e 0 m)) [] ms) (not_crossed t) r (cell_not n d₀ to n₀ k d ns (each (move_face t (points_at e 0 m)) [] ms) u r F x) in
         let s = cell_size n d₀ to n₀ k d ns (each (move_face t (points_at e 0 m)) [] ms) u F in
         subst (λ y. CellMoved y n d₀ to n₀ k d ns u) (sym z) (x, s.0, s.1)
 
-    pub all_moved : (r : Verdict) → u ≡ D.Fine → k + n ≤ length n₀ → r ≡ against false t (cell_at d to (counts_at ns k n)) (cell_at d to (counts_at ns k n)) → CellMoved (move_all t ms ps) n d₀ to n₀ k d ns r
+    pub all_moved : (r : Outcome Unit) → u ≡ Ok tt → k + n ≤ length n₀ → r ≡ against false t (cell_at d to (counts_at ns k n)) (cell_at d to (counts_at ns k n)) → CellMoved (move_all t ms ps) n d₀ to n₀ k d ns r
     unfolding not_crossed
     all_moved r x slots y =
         let g = cell_made n d₀ to n₀ k d ns (each (move_face t (points_at e 0 m)) [] ms) u F x in
@@ -138,8 +134,8 @@ module _ {s : List Float} {at : ℕ} {counts : List ℕ} {first n : ℕ} {by poi
   abbrev whole : Cell
   whole = cell_at s at (counts_at counts first n)
 
-  module _ (p : List Float) (i : List ℕ) (r : Counted) (S : Stored (indexed t (cell_at s at (counts_at counts first n))) points places p i r) where
-    pub index_source : (m : ℕ) → r ≡ C.Made m → Source s at counts first n by i
+  module _ (p : List Float) (i : List ℕ) (r : Outcome ℕ) (S : Stored (indexed t (cell_at s at (counts_at counts first n))) points places p i r) where
+    pub index_source : (m : ℕ) → r ≡ Ok m → Source s at counts first n by i
     index_source m e =
         let g = stored_made (indexed t (cell_at s at (counts_at counts first n))) points places p i r m S e in
         let l : length i ≡ length places = ap length g.4 ∙ length-sets places 0 (flat g.0.faces) in
@@ -149,22 +145,22 @@ module _ {s : List Float} {at : ℕ} {counts : List ℕ} {first n : ℕ} {by poi
           distances = ready.distances;
         }
 
-    pub index_few : (m : ℕ) → r ≡ C.Made m → (3 * m ≤ length p) × (3 * m ≤ length moved)
+    pub index_few : (m : ℕ) → r ≡ Ok m → (3 * m ≤ length p) × (3 * m ≤ length moved)
     index_few m e =
         let g = stored_made (indexed t (cell_at s at (counts_at counts first n))) points places p i r m S e in
         let f = indexed_few t (cell_at s at (counts_at counts first n)) g.0 g.1 in
         let l : length p ≡ length points = ap length g.3 ∙ length-sets points 0 (floats_of g.0.points) in
         (omega (arith, g.2, f, l, ready.fits.points), omega (arith, g.2, f, ready.moves))
 
-    pub index_not : (x : Refusal) (v : Verdict) → r ≡ C.Refused x → v ≡ D.Refused x → all finite true (take n by) ≡ true → CellMoved (offset_distances t (take n by) (cell_at s at (counts_at counts first n))) n d to sizes k d sizes v
+    pub index_not : (x : Refusal) (v : Outcome Unit) → r ≡ Err x → v ≡ Err x → all finite true (take n by) ≡ true → CellMoved (offset_distances t (take n by) (cell_at s at (counts_at counts first n))) n d to sizes k d sizes v
     unfolding offset_distances CellMoved
     index_not x v e w fine =
-        let z : offset_distances t (take n by) (cell_at s at (counts_at counts first n)) ≡ refused x =
+        let z : offset_distances t (take n by) (cell_at s at (counts_at counts first n)) ≡ Err x =
         ap (λ b. unless (not b) 2 (then (indexed t whole) (λ s. move_all t (moving whole s.faces (take n by)) s.points))) fine
         ∙ stop (indexed t whole) _ x (stored_not (indexed t whole) points places p i r x S e) in
         subst (λ y. CellMoved y n d to sizes k d sizes v) (sym z) (w, refl, refl)
 
-    pub index_moved : (m : ℕ) (d' : List Float) (ns' : List ℕ) (v : Verdict) → r ≡ C.Made m → all finite true (take n by) ≡ true →
+    pub index_moved : (m : ℕ) (d' : List Float) (ns' : List ℕ) (v : Outcome Unit) → r ≡ Ok m → all finite true (take n by) ≡ true →
         CellMoved (move_all t (moving_at s at counts first n by i) (points_at p 0 m)) n d to sizes k d' ns' v → CellMoved (offset_distances t (take n by) (cell_at s at (counts_at counts first n))) n d to sizes k d' ns' v
     unfolding offset_distances
     index_moved m d' ns' v e fine M =
@@ -180,15 +176,15 @@ module _ {s : List Float} {at : ℕ} {counts : List ℕ} {first n : ℕ} {by poi
         subst (λ y. CellMoved y n d to sizes k d' ns' v) (sym z) M
 
   -- 2
-  pub not_finite : (x : Refusal) (v : Verdict) → x ≡ refusal_of 2 → v ≡ D.Refused x → all finite true (take n by) ≡ false → CellMoved (offset_distances t (take n by) (cell_at s at (counts_at counts first n))) n d to sizes k d sizes v
+  pub not_finite : (x : Refusal) (v : Outcome Unit) → x ≡ refusal_of 2 → v ≡ Err x → all finite true (take n by) ≡ false → CellMoved (offset_distances t (take n by) (cell_at s at (counts_at counts first n))) n d to sizes k d sizes v
   unfolding offset_distances CellMoved
   not_finite x v e w fine =
-      let z : offset_distances t (take n by) (cell_at s at (counts_at counts first n)) ≡ refused x =
-      ap (λ b. unless (not b) 2 (then (indexed t whole) (λ s. move_all t (moving whole s.faces (take n by)) s.points))) fine ∙ ap refused (sym e) in
+      let z : offset_distances t (take n by) (cell_at s at (counts_at counts first n)) ≡ Err x =
+      ap (λ b. unless (not b) 2 (then (indexed t whole) (λ s. move_all t (moving whole s.faces (take n by)) s.points))) fine ∙ ap Err (sym e) in
       subst (λ y. CellMoved y n d to sizes k d sizes v) (sym z) (w, refl, refl)
 
   -- one distance for all faces
-  pub same_distance : (h : Float) (b : List Float) (d' : List Float) (ns' : List ℕ) (v : Verdict) → by ≡ replicate n h ++ drop n b →
+  pub same_distance : (h : Float) (b : List Float) (d' : List Float) (ns' : List ℕ) (v : Outcome Unit) → by ≡ replicate n h ++ drop n b →
       CellMoved (offset_distances t (take n by) (cell_at s at (counts_at counts first n))) n d to sizes k d' ns' v → CellMoved (offset_cell t h (cell_at s at (counts_at counts first n))) n d to sizes k d' ns' v
   unfolding offset_cell
   same_distance h b d' ns' v e M =

@@ -13,10 +13,9 @@ ghost use Rattle.shift.specs.Shifts.{meeting};
 ghost use Rattle.offset.specs.Offsets.{pushes, move_points, move_face, move_all, offset_distances, offset_cell};
 ghost use Rattle.offset.specs.Stored.{Source, moving_at, PointsMoved, FaceMoved, CellMoved, Place, Ready};
 
-use indexed::Counted;
-use refusal::Verdict;
-use shift::{Meeting, Push, Shifted};
-use space::{Planed, Precision};
+use refusal::Refusal;
+use shift::{Meeting, Push};
+use space::{Plane, Precision};
 
 // Each of n distances is finite.
 fn all_finite(by: &[f64], n: usize) -> bool
@@ -24,15 +23,14 @@ fn all_finite(by: &[f64], n: usize) -> bool
     ensures { result ≡ all finite true (take n by.now) }
 {
     let mut fine = true;
-    let mut j = 0;
-    while j < n {
+    for j in 0..n {
         fine = fine & float::is_finite(by[j]);
-        j += 1;
     }
     fine
 }
 
 // The faces that meet the point of place x.
+#[tactic(auto, using(crate::specs::Laws::along_inside, crate::specs::Laws::along_few))]
 fn meeting_at(
     s: &[f64],
     at: usize,
@@ -49,8 +47,7 @@ fn meeting_at(
     let mut m = shift::alone();
     let mut o = at;
     let mut k = 0;
-    let mut j = 0;
-    while j < n {
+    for j in 0..n {
         let c = counts[first + j] as usize;
         let normal = polygon::get_point(s, o + 9);
         let p = Push { normal, by: by[j] };
@@ -58,12 +55,12 @@ fn meeting_at(
         m = shift::note_if(meets, m, p);
         o = o + room::PLANE + 3 * c;
         k += c;
-        j += 1;
     }
     m
 }
 
 // The m points of the cell, each moved with the faces that meet it.
+#[tactic(auto, using(crate::specs::Laws::shifting_size))]
 fn move_points(
     t: Precision,
     s: &[f64],
@@ -76,49 +73,17 @@ fn move_points(
     points: &[f64],
     m: usize,
     moved: &mut [f64],
-) -> Verdict
+) -> Result<(), Refusal>
     requires { Source s.now at counts.now first n by.now places.now × (3 * m ≤ length points.now) × (3 * m ≤ length moved.old) }
     ensures { PointsMoved (move_points t (moving_at s.now at counts.now first n by.now places.now) 0 [] (points_at points.now 0 m)) m moved.old moved.new result }
 {
-    let mut x = 0;
-    while x < m {
+    for x in 0..m {
         let p = polygon::get_point(points, 3 * x);
         let meeting = meeting_at(s, at, counts, first, n, by, places, x);
-        let shifted = shift::moved(t, p, meeting);
-        match shifted {
-            Shifted::Refused(r) => {
-                return Verdict::Refused(r);
-            }
-            Shifted::At(q) => {
-                polygon::put_point(moved, 3 * x, q);
-            }
-        }
-        x += 1;
+        let q = shift::moved(t, p, meeting)?;
+        polygon::put_point(moved, 3 * x, q);
     }
-    Verdict::Fine
-}
-
-// The corners of a face: those of m points whose c places stand from p on.
-fn put_corners(
-    places: &[u64],
-    p: usize,
-    c: usize,
-    points: &[f64],
-    m: usize,
-    dst: &mut [f64],
-    to: usize,
-)
-    requires { (p + c ≤ length places.now) × (3 * m ≤ length points.now) × (to + 3 * c ≤ length dst.old) }
-    ensures { dst.new ≡ sets dst.old to (floats_of (map (point_of (points_at points.now 0 m)) (counts_at places.now p c))) }
-{
-    let mut o = to;
-    let mut j = 0;
-    while j < c {
-        let q = solids::point_of(points, m, places[p + j] as usize);
-        polygon::put_point(dst, o, q);
-        o += 3;
-        j += 1;
-    }
+    Ok(())
 }
 
 // A face on its moved plane.
@@ -134,25 +99,19 @@ fn move_face(
     m: usize,
     dst: &mut [f64],
     to: usize,
-) -> Verdict
+) -> Result<(), Refusal>
     requires { (o + plane_size + 3 * c ≤ length s.now) × (p + c ≤ length places.now) × (3 * m ≤ length moved.now) × (to + plane_size + 3 * c ≤ length dst.old) }
     ensures { FaceMoved (move_face t (points_at moved.now 0 m) (record { face = face_at s.now o c; places = counts_at places.now p c; by = d })) to dst.old dst.new result }
 {
     let w = room::get_plane(s, o);
-    let made = shift::moved_plane(t, w, d);
-    match made {
-        Planed::Refused(r) => {
-            return Verdict::Refused(r);
-        }
-        Planed::Made(f) => {
-            room::put_plane(dst, to, f);
-        }
-    }
-    put_corners(places, p, c, moved, m, dst, to + room::PLANE);
-    Verdict::Fine
+    let f = shift::moved_plane(t, w, d)?;
+    room::put_plane(dst, to, f);
+    solids::put_corners(moved, m, places, p, c, dst, to + room::PLANE);
+    Ok(())
 }
 
 // The faces of the cell on their moved planes.
+#[tactic(auto, using(crate::specs::Laws::along_inside, crate::specs::Laws::along_few, crate::specs::Laws::building_fits, crate::specs::Laws::listing_size, crate::specs::Laws::listing_slots))]
 fn move_faces(
     t: Precision,
     s: &[f64],
@@ -168,31 +127,23 @@ fn move_faces(
     to: usize,
     sizes: &mut [u64],
     k: usize,
-) -> Verdict
+) -> Result<(), Refusal>
     requires { Source s.now at counts.now first n by.now places.now × (3 * m ≤ length moved.now) × Place counts.now first n dst.old to sizes.old k }
     ensures { CellMoved (each (move_face t (points_at moved.now 0 m)) [] (moving_at s.now at counts.now first n by.now places.now)) n dst.old to sizes.old k dst.new sizes.new result }
 {
     let mut o = at;
     let mut p = 0;
     let mut q = to;
-    let mut j = 0;
-    while j < n {
+    for j in 0..n {
         let c = counts[first + j] as usize;
         let d = by[j];
-        let v = move_face(t, s, o, d, places, p, c, moved, m, dst, q);
-        match v {
-            Verdict::Fine => {}
-            Verdict::Refused(r) => {
-                return Verdict::Refused(r);
-            }
-        }
+        move_face(t, s, o, d, places, p, c, moved, m, dst, q)?;
         sizes[k + j] = c as u64;
         o = o + room::PLANE + 3 * c;
         p += c;
         q = q + room::PLANE + 3 * c;
-        j += 1;
     }
-    Verdict::Fine
+    Ok(())
 }
 
 // Points, then faces, then the side tests.
@@ -212,20 +163,14 @@ fn move_all(
     to: usize,
     sizes: &mut [u64],
     k: usize,
-) -> Verdict
+) -> Result<(), Refusal>
     requires { Source s.now at counts.now first n by.now places.now × (3 * m ≤ length points.now) × (3 * m ≤ length moved.old) × Place counts.now first n dst.old to sizes.old k }
     ensures { CellMoved (move_all t (moving_at s.now at counts.now first n by.now places.now) (points_at points.now 0 m)) n dst.old to sizes.old k dst.new sizes.new result }
 {
-    let v = move_points(t, s, at, counts, first, n, by, places, points, m, moved);
-    let Verdict::Fine = v else {
-        return v;
-    };
-    let w = move_faces(
+    move_points(t, s, at, counts, first, n, by, places, points, m, moved)?;
+    move_faces(
         t, s, at, counts, first, n, by, places, moved, m, dst, to, sizes, k,
-    );
-    let Verdict::Fine = w else {
-        return w;
-    };
+    )?;
     bounds::against(false, t, dst, to, sizes, k, n, dst, to, sizes, k, n)
 }
 
@@ -247,32 +192,17 @@ pub fn offset_distances(
     to: usize,
     sizes: &mut [u64],
     k: usize,
-) -> Verdict
+) -> Result<(), Refusal>
     requires { Ready s.now at counts.now first n by.now points.old places.old moved.old dst.old to sizes.old k }
     ensures { CellMoved (offset_distances t (take n by.now) (cell_at s.now at (counts_at counts.now first n))) n dst.old to sizes.old k dst.new sizes.new result }
 {
     if !all_finite(by, n) {
-        return Verdict::Refused(refusal::refuse(2));
+        return Err(refusal::refuse(2));
     }
-    let found = indexed::indexed(t, s, at, counts, first, n, points, places);
-    match found {
-        Counted::Refused(r) => Verdict::Refused(r),
-        Counted::Made(m) => move_all(
-            t, s, at, counts, first, n, by, places, points, m, moved, dst, to, sizes, k,
-        ),
-    }
-}
-
-// The first n distances are d.
-fn fill(by: &mut [f64], n: usize, d: f64)
-    requires { n ≤ length by.old }
-    ensures { by.new ≡ replicate n d ++ drop n by.old }
-{
-    let mut j = 0;
-    while j < n {
-        by[j] = d;
-        j += 1;
-    }
+    let m = indexed::indexed(t, s, at, counts, first, n, points, places)?;
+    move_all(
+        t, s, at, counts, first, n, by, places, points, m, moved, dst, to, sizes, k,
+    )
 }
 
 // The same, every face pushed by d; `by` is work memory too.
@@ -292,11 +222,11 @@ pub fn offset(
     to: usize,
     sizes: &mut [u64],
     k: usize,
-) -> Verdict
+) -> Result<(), Refusal>
     requires { Ready s.now at counts.now first n by.old points.old places.old moved.old dst.old to sizes.old k }
     ensures { CellMoved (offset_cell t d (cell_at s.now at (counts_at counts.now first n))) n dst.old to sizes.old k dst.new sizes.new result }
 {
-    fill(by, n, d);
+    by[..n].fill(d);
     offset_distances(
         t, s, at, counts, first, n, by, points, places, moved, dst, to, sizes, k,
     )

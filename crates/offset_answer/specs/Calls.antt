@@ -1,6 +1,6 @@
 -- The call of an offset, from the checked cell to the bytes of its answer. Definitions only.
-use Rattle.std.specs.Prelude.{List, ℕ, length, ltb, Float}
-use Rattle.refusal.specs.Outcome.{Outcome, ok, then, unless}
+use Rattle.std.specs.Prelude.{List, ℕ, length, ltb, Float, Ok}
+use Rattle.refusal.specs.Outcome.{Outcome, then, unless}
 use Rattle.space.specs.declared.Precision.{Precision}
 use Rattle.space.specs.Shapes.{Cell, Solid}
 use Rattle.indexed.specs.Stored.{flat}
@@ -11,7 +11,7 @@ use Rattle.answer.specs.Answers.{solid_answer}
 
 -- 12: "last of all when the finished answer of an offset … has more" corners than the room
 unfoldable pub offset_answer : ℕ → Solid → Outcome (List ℕ)
-offset_answer limit s = unless (ltb limit (length (flat s.faces))) 12 (ok (solid_answer s))
+offset_answer limit s = unless (ltb limit (length (flat s.faces))) 12 (Ok (solid_answer s))
 
 -- "the solid that an offset gives" passes "`indexed` and this check, without the counts, and the indexed points and faces are the answer"
 unfoldable pub built_answer : Precision → ℕ → Cell → Outcome (List ℕ)

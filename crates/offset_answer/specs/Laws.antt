@@ -1,13 +1,11 @@
 -- Laws of the call of an offset: its stages one after another, and the size of its answer.
-use Rattle.std.specs.Prelude.{◌≡◌, false, List, ℕ, ◌+◌, ◌*◌, ◌≤◌, ◌<◌, length, Float}
+use Rattle.std.specs.Prelude.{◌≡◌, false, List, ℕ, ◌+◌, ◌*◌, ◌≤◌, ◌<◌, length, Float, Ok, Err}
 use Rattle.std.proofs.Math.Path.{refl, ap, subst}
 use Rattle.std.proofs.Common.{sym, ◌∙◌, arith, lt-ltb, le-ltb}
 use Rattle.std.proofs.lemmas.List.Edits.{sets}
 use Rattle.std.proofs.Math.Seq.{length-sets}
 use Rattle.refusal.specs.declared.Refusal.{Refusal}
-use Rattle.refusal.specs.declared.Verdict.{Verdict}
-use Rattle.refusal.specs.declared.Verdict.TheVariants as D
-use Rattle.refusal.specs.Outcome.{Outcome, ok, refused, refusal_of, then, unless}
+use Rattle.refusal.specs.Outcome.{Outcome, refusal_of, then, unless}
 use Rattle.refusal.specs.Laws.{stop, go, same_ok, then_ok}
 use Rattle.space.specs.declared.Precision.{Precision}
 use Rattle.space.specs.Shapes.{Cell, Solid, corners}
@@ -15,8 +13,6 @@ use Rattle.polygon.specs.Memory.{floats_of, points_at}
 use Rattle.polygon.specs.MemoryLaws.{length_points_at}
 use Rattle.room.specs.Rooms.{cell_at, counts_at}
 use Rattle.room.specs.Laws.{cell_counts_lem}
-use Rattle.indexed.specs.declared.Counted.{Counted}
-use Rattle.indexed.specs.declared.Counted.TheVariants as C
 use Rattle.indexed.specs.Indexed.{indexed}
 use Rattle.indexed.specs.Stored.{flat, Stored, Fits}
 use Rattle.indexed.proofs.Laws.{stored_points, stored_places, flat_corners}
@@ -48,13 +44,13 @@ module _ (points : List Float) (m : ℕ) (places counts : List ℕ) (n k limit :
   pub put_over : (a : List ℕ) (x : Refusal) (r : Ended) → limit < k → x ≡ refusal_of 12 → r ≡ stopped x → Handed (fitted (length a) (offset_answer limit (solid_in points m places counts n))) a a r
   unfolding offset_answer
   put_over a x r h e g =
-      let z : offset_answer limit solid ≡ refused x =
-      ap (λ b. unless b 12 (ok (solid_answer solid))) (lt-ltb limit (length (flat (faces_at places 0 (counts_at counts 0 n)))) (omega (arith, h, all))) ∙ ap refused (sym e) in
+      let z : offset_answer limit solid ≡ Err x =
+      ap (λ b. unless b 12 (Ok (solid_answer solid))) (lt-ltb limit (length (flat (faces_at places 0 (counts_at counts 0 n)))) (omega (arith, h, all))) ∙ ap Err (sym e) in
       handed_not (offset_answer limit solid) a a r x z g refl
 
-  within : k ≤ limit → offset_answer limit (solid_in points m places counts n) ≡ ok (solid_answer (solid_in points m places counts n))
+  within : k ≤ limit → offset_answer limit (solid_in points m places counts n) ≡ Ok (solid_answer (solid_in points m places counts n))
   unfolding offset_answer
-  within h = ap (λ b. unless b 12 (ok (solid_answer solid))) (le-ltb limit (length (flat (faces_at places 0 (counts_at counts 0 n)))) (omega (arith, h, all)))
+  within h = ap (λ b. unless b 12 (Ok (solid_answer solid))) (le-ltb limit (length (flat (faces_at places 0 (counts_at counts 0 n)))) (omega (arith, h, all)))
 
   pub put_full : (a : List ℕ) (x : Refusal) (r : Ended) → k ≤ limit → length a < 8 + 24 * m + 4 * n + 4 * k → x ≡ refusal_of 12 → r ≡ stopped x →
       Handed (fitted (length a) (offset_answer limit (solid_in points m places counts n))) a a r
@@ -72,29 +68,29 @@ module _ (points : List Float) (m : ℕ) (places counts : List ℕ) (n k limit :
 -- ---- the cell is built
 
 -- a built solid is the indexed one
-pub built_indexed : (t : Precision) (c : Cell) (s : Solid) → built t c ≡ ok s → (indexed t c ≡ ok s) × ((b : Cell) × (check false t s ≡ ok b))
+pub built_indexed : (t : Precision) (c : Cell) (s : Solid) → built t c ≡ Ok s → (indexed t c ≡ Ok s) × ((b : Cell) × (check false t s ≡ Ok b))
 unfolding built
 built_indexed t c s e =
-    let f = then_ok (indexed t c) (λ x. then (check false t x) (λ _. ok x)) s e in
-    let g = then_ok (check false t f.0) (λ _. ok f.0) s f.2 in
+    let f = then_ok (indexed t c) (λ x. then (check false t x) (λ _. Ok x)) s e in
+    let g = then_ok (check false t f.0) (λ _. Ok f.0) s f.2 in
     let h = same_ok g.2 in
-    (f.1 ∙ ap ok h, (g.0, ap (check false t) (sym h) ∙ g.1))
+    (f.1 ∙ ap Ok h, (g.0, ap (check false t) (sym h) ∙ g.1))
 
-module _ (t : Precision) (limit : ℕ) (src : List Float) (counts : List ℕ) (n : ℕ) (p₀ : List Float) (i₀ : List ℕ) (fits : Fits src counts 0 0 n p₀ i₀) (p : List Float) (i : List ℕ) (f : Counted)
+module _ (t : Precision) (limit : ℕ) (src : List Float) (counts : List ℕ) (n : ℕ) (p₀ : List Float) (i₀ : List ℕ) (fits : Fits src counts 0 0 n p₀ i₀) (p : List Float) (i : List ℕ) (f : Outcome ℕ)
     (S : Stored (built t (cell_at src 0 (counts_at counts 0 n))) p₀ i₀ p i f) where
   abbrev cell : Cell
   cell = cell_at src 0 (counts_at counts 0 n)
 
-  pub built_stops : (a : List ℕ) (x : Refusal) (r : Ended) → f ≡ C.Refused x → r ≡ stopped x → Handed (fitted (length a) (built_answer t limit (cell_at src 0 (counts_at counts 0 n)))) a a r
+  pub built_stops : (a : List ℕ) (x : Refusal) (r : Ended) → f ≡ Err x → r ≡ stopped x → Handed (fitted (length a) (built_answer t limit (cell_at src 0 (counts_at counts 0 n)))) a a r
   unfolding built_answer
   built_stops a x r e g = handed_not (built_answer t limit cell) a a r x (stop (built t cell) (offset_answer limit) x (stored_not (built t cell) p₀ i₀ p i f x S e)) g refl
 
-  module _ (m : ℕ) (e : f ≡ C.Made m) where
+  module _ (m : ℕ) (e : f ≡ Ok m) where
     -- the solid that was built
-    pub found : (s : Solid) × (built t (cell_at src 0 (counts_at counts 0 n)) ≡ ok s) × (m ≡ length s.points) × (p ≡ sets p₀ 0 (floats_of s.points)) × (i ≡ sets i₀ 0 (flat s.faces))
+    pub found : (s : Solid) × (built t (cell_at src 0 (counts_at counts 0 n)) ≡ Ok s) × (m ≡ length s.points) × (p ≡ sets p₀ 0 (floats_of s.points)) × (i ≡ sets i₀ 0 (flat s.faces))
     found = stored_made (built t cell) p₀ i₀ p i f m S e
 
-    pub is_indexed : indexed t (cell_at src 0 (counts_at counts 0 n)) ≡ ok found.0
+    pub is_indexed : indexed t (cell_at src 0 (counts_at counts 0 n)) ≡ Ok found.0
     is_indexed = (built_indexed t cell found.0 found.1).0
 
     few : length found.0.points ≤ corners 0 (cell_at src 0 (counts_at counts 0 n))
@@ -134,17 +130,17 @@ pub same_bench : {n : ℕ} {ends head next seen work nodes cuts : List ℕ} {p q
 same_bench {n} {ends} {head} {next} {seen} {work} {nodes} {cuts} e b = subst (λ k. Bench k n ends head next seen work nodes cuts) (sym e) b
 
 module _ (t : Precision) (limit : ℕ) (d : Float) (s : List Float) (counts : List ℕ) (n : ℕ) {by points : List Float} {places : List ℕ} {moved dst : List Float} {sizes : List ℕ}
-    (ready : Ready s 0 counts 0 n by points places moved dst 0 sizes 0) (dst' : List Float) (sizes' : List ℕ) (v : Verdict)
+    (ready : Ready s 0 counts 0 n by points places moved dst 0 sizes 0) (dst' : List Float) (sizes' : List ℕ) (v : Outcome Unit)
     (M : CellMoved (offset_cell t d (cell_at s 0 (counts_at counts 0 n))) n dst 0 sizes 0 dst' sizes' v) where
   abbrev start : Cell
   start = cell_at s 0 (counts_at counts 0 n)
 
-  pub offset_stops : (a : List ℕ) (x : Refusal) (r : Ended) → v ≡ D.Refused x → r ≡ stopped x → Handed (fitted (length a) (offset_call t limit d (cell_at s 0 (counts_at counts 0 n)))) a a r
+  pub offset_stops : (a : List ℕ) (x : Refusal) (r : Ended) → v ≡ Err x → r ≡ stopped x → Handed (fitted (length a) (offset_call t limit d (cell_at s 0 (counts_at counts 0 n)))) a a r
   unfolding offset_call
   offset_stops a x r e g = handed_not (offset_call t limit d start) a a r x (stop (offset_cell t d start) (built_answer t limit) x (cell_not n dst 0 sizes 0 dst' sizes' (offset_cell t d start) v x M e)) g refl
 
-  module _ (e : v ≡ D.Fine) where
-    pub made : (c : Cell) × (offset_cell t d (cell_at s 0 (counts_at counts 0 n)) ≡ ok c) × CellMoved (ok c) n dst 0 sizes 0 dst' sizes' v
+  module _ (e : v ≡ Ok tt) where
+    pub made : (c : Cell) × (offset_cell t d (cell_at s 0 (counts_at counts 0 n)) ≡ Ok c) × CellMoved (Ok c) n dst 0 sizes 0 dst' sizes' v
     made = cell_made n dst 0 sizes 0 dst' sizes' (offset_cell t d start) v M e
 
     pub moved_is : cell_at dst' 0 (counts_at sizes' 0 n) ≡ made.0

@@ -11,8 +11,7 @@ ghost use Rattle.ended.specs.Ends.{fitted, Handed};
 ghost use Rattle.offset_answer.specs.Calls.{offset_answer, built_answer, offset_call, Shop};
 
 use ended::Ended;
-use indexed::Counted;
-use refusal::Verdict;
+use refusal::Refusal;
 use space::Precision;
 
 // The solid of m points and n faces with k corners in all.
@@ -64,8 +63,8 @@ fn built_answer(
         t, src, 0, counts, n, points, places, ends, head, next, seen, work, nodes, cuts,
     );
     match found {
-        Counted::Refused(r) => ended::stop(r),
-        Counted::Made(m) => {
+        Err(r) => ended::stop(r),
+        Ok(m) => {
             let k = hollow::corners_of(counts, 0, n, src, 0);
             put_answer(limit, points, m, places, counts, n, k, answer)
         }
@@ -103,8 +102,8 @@ pub fn offset_answer(
         t, s, 0, counts, 0, n, d, by, points, places, moved, dst, 0, sizes, 0,
     );
     match v {
-        Verdict::Refused(r) => ended::stop(r),
-        Verdict::Fine => built_answer(
+        Err(r) => ended::stop(r),
+        Ok(()) => built_answer(
             t, limit, dst, sizes, n, points, places, ends, head, next, seen, work, nodes, cuts,
             answer,
         ),

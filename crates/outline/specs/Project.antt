@@ -1,13 +1,9 @@
 -- The corners of a facet in the coordinates of its plane: 34. Definitions only.
-use Rattle.std.specs.Prelude.{ℕ, zero, suc, ◌+◌, ◌-◌, ◌/◌, List, [], ◌∷◌, ◌++◌, length, take, get_or, replicate, Float}
+use Rattle.std.specs.Prelude.{◌-◌, ◌/◌, List, ◌++◌, length, take, replicate, Float, Ok, Err, Some, None, Option}
 use Rattle.std.specs.Float.{nan, binary64}
 use Rattle.std.specs.Float.Ieee.{of_bits}
-use Rattle.refusal.specs.declared.Verdict.{Verdict}
-use Rattle.refusal.specs.declared.Verdict.TheVariants.{Fine, Refused}
-use Rattle.refusal.specs.Outcome.{Outcome, ok, refused, refuse, refusal_of}
+use Rattle.refusal.specs.Outcome.{Outcome, refuse, refusal_of}
 use Rattle.interval.specs.declared.Interval.{Interval}
-use Rattle.interval.specs.declared.Inverse.{Inverse}
-use Rattle.interval.specs.declared.Inverse.TheVariants.{Value, Nothing}
 use Rattle.interval.specs.declared.Sign.{Sign}
 use Rattle.interval.specs.declared.Sign.TheVariants.{Positive, Negative, Zero, Unknown}
 use Rattle.interval.specs.Ends.{point_i, mul_i, sign_of, inverse_of}
@@ -18,31 +14,24 @@ use Rattle.space.specs.declared.Plane.{Plane}
 use Rattle.space.specs.Vector.{box_of}
 use Rattle.polygon.specs.Memory.{points_at}
 use Rattle.turns.specs.declared.Projected.{Projected}
-use Rattle.outline.specs.declared.Shadow.{Shadow}
-use Rattle.outline.specs.declared.Shadow.TheVariants as S
 use Rattle.outline.specs.declared.Outline.{Outline}
-use Rattle.outline.specs.declared.Outlined.{Outlined}
 
 -- ---- handedness
 
 -- 34: "handedness … uncertified"
-unfoldable pub handed : Sign → Verdict
-handed Positive = Fine
-handed Negative = Refused (refusal_of 34)
-handed Zero = Refused (refusal_of 34)
-handed Unknown = Refused (refusal_of 34)
+unfoldable pub handed : Sign → Outcome Unit
+handed Positive = Ok tt
+handed Negative = Err (refusal_of 34)
+handed Zero = Err (refusal_of 34)
+handed Unknown = Err (refusal_of 34)
 
 -- (x cross y) dot z
-unfoldable pub basis_of : Plane → Verdict
+unfoldable pub basis_of : Plane → Outcome Unit
 basis_of w = handed (sign_of (dot0 (cross_i (box_of w.frame.x) (box_of w.frame.y)) (box_of w.frame.z)))
 
 -- ---- one corner
 
 -- what the answer says
-unfoldable pub shadowed : Shadow → Outcome Projected
-shadowed (S.Made q) = ok q
-shadowed (S.Refused r) = refused r
-
 -- the coordinates along the frame's x and y
 unfoldable pub seen : Frame → List Interval → Projected
 seen f s = record { x = dot0 s (box_of f.x); y = dot0 s (box_of f.y) }
@@ -52,9 +41,9 @@ unfoldable pub shadow_of : Frame → List Interval → List Interval → Interva
 shadow_of f d n r = seen f (residual_i d n (mul_i (dot0 d n) r))
 
 -- 34: "reciprocal uncertified"
-unfoldable pub shadow_by : Frame → List Interval → List Interval → Inverse → Outcome Projected
-shadow_by f d n (Value r) = ok (shadow_of f d n r)
-shadow_by f d n Nothing = refuse 34
+unfoldable pub shadow_by : Frame → List Interval → List Interval → Option Interval → Outcome Projected
+shadow_by f d n (Some r) = Ok (shadow_of f d n r)
+shadow_by f d n None = refuse 34
 
 unfoldable pub projected_of : Plane → Point3 → Outcome Projected
 projected_of w q =
@@ -84,7 +73,7 @@ padded l = l ++ replicate (128 - length l) middle
 abbrev pub outline : List Projected → Outline
 outline l = record { at = padded l; n = length l }
 
--- a verdict, with the outline beside it, which is empty at a refusal
-unfoldable pub outlined : Outcome (List Projected) → Outlined
-outlined (ok l) = record { verdict = Fine; outline = outline l }
-outlined (refused r) = record { verdict = Refused r; outline = outline [] }
+-- the outline of the points, or the refusal
+unfoldable pub outlined : Outcome (List Projected) → Outcome Outline
+outlined (Ok l) = Ok (outline l)
+outlined (Err r) = Err r

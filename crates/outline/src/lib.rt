@@ -2,12 +2,12 @@
 
 // The outline of a facet in the coordinates of its plane.
 ghost use Rattle.std.specs.Prelude.{◌≡◌, [], ◌+◌, ◌*◌, ◌/◌, ◌≤◌, length};
-ghost use Rattle.refusal.specs.Outcome.{refused, each};
+ghost use Rattle.refusal.specs.Outcome.{each};
 ghost use Rattle.polygon.specs.Memory.{point_at};
-ghost use Rattle.outline.specs.Project.{handed, basis_of, shadowed, shadow_of, shadow_by, projected_of, facet_of, outline, outlined};
+ghost use Rattle.outline.specs.Project.{handed, basis_of, shadow_of, shadow_by, projected_of, facet_of, outline, outlined};
 
-use interval::{Interval, Inverse, Sign};
-use refusal::{Refusal, Verdict};
+use interval::{Interval, Sign};
+use refusal::Refusal;
 use space::{Frame, Plane, Point3};
 use turns::Projected;
 
@@ -17,20 +17,9 @@ pub struct Outline {
     pub n: usize,
 }
 
-#[derive(Clone, Copy)]
-pub enum Shadow {
-    Made(Projected),
-    Refused(Refusal),
-}
-
-#[derive(Clone, Copy)]
-pub struct Outlined {
-    pub verdict: Verdict,
-    pub outline: Outline,
-}
-
 // 34 where the handedness of the plane's frame is not certified.
-pub fn plane_basis(plane: Plane) -> Verdict
+#[tactic(auto, unfolding(crate::specs::Project::basis_of))]
+pub fn plane_basis(plane: Plane) -> Result<(), Refusal>
     ensures { result ≡ basis_of plane }
 {
     let frame = plane.frame;
@@ -38,18 +27,20 @@ pub fn plane_basis(plane: Plane) -> Verdict
     handed(interval::sign_of(interval::dot_from_zero(cross, space::coordinates(frame.z))))
 }
 
-fn handed(s: Sign) -> Verdict
+#[tactic(auto, unfolding(crate::specs::Project::handed))]
+fn handed(s: Sign) -> Result<(), Refusal>
     ensures { result ≡ handed s }
 {
     match s {
-        Sign::Positive => Verdict::Fine,
-        Sign::Negative => Verdict::Refused(refusal::refuse(34)),
-        Sign::Zero => Verdict::Refused(refusal::refuse(34)),
-        Sign::Unknown => Verdict::Refused(refusal::refuse(34)),
+        Sign::Positive => Ok(()),
+        Sign::Negative => Err(refusal::refuse(34)),
+        Sign::Zero => Err(refusal::refuse(34)),
+        Sign::Unknown => Err(refusal::refuse(34)),
     }
 }
 
 // delta less its part along the normal, whose reciprocal square is r.
+#[tactic(auto, unfolding(crate::specs::Project::shadow_of, crate::specs::Project::seen))]
 fn flattened(f: Frame, delta: [Interval; 3], normal: [Interval; 3], r: Interval) -> Projected
     ensures { result ≡ shadow_of f delta normal r }
 {
@@ -61,17 +52,24 @@ fn flattened(f: Frame, delta: [Interval; 3], normal: [Interval; 3], r: Interval)
     }
 }
 
-fn shadow_by(f: Frame, delta: [Interval; 3], normal: [Interval; 3], r: Inverse) -> Shadow
-    ensures { shadowed result ≡ shadow_by f delta normal r }
+#[tactic(auto, unfolding(crate::specs::Project::shadow_by))]
+fn shadow_by(
+    f: Frame,
+    delta: [Interval; 3],
+    normal: [Interval; 3],
+    r: Option<Interval>,
+) -> Result<Projected, Refusal>
+    ensures { result ≡ shadow_by f delta normal r }
 {
     match r {
-        Inverse::Value(v) => Shadow::Made(flattened(f, delta, normal, v)),
-        Inverse::Nothing => Shadow::Refused(refusal::refuse(34)),
+        Some(v) => Ok(flattened(f, delta, normal, v)),
+        None => Err(refusal::refuse(34)),
     }
 }
 
-pub fn projected(plane: Plane, q: Point3) -> Shadow
-    ensures { shadowed result ≡ projected_of plane q }
+#[tactic(auto, unfolding(crate::specs::Project::projected_of))]
+pub fn projected(plane: Plane, q: Point3) -> Result<Projected, Refusal>
+    ensures { result ≡ projected_of plane q }
 {
     let f = plane.frame;
     let delta = interval::difference(space::coordinates(q), space::coordinates(f.origin));
@@ -107,37 +105,16 @@ pub fn corner(s: &[f64], i: usize) -> Point3
     }
 }
 
-fn refused(r: Refusal) -> Outlined
-    ensures { result ≡ outlined (refused r) }
-{
-    Outlined {
-        verdict: Verdict::Refused(r),
-        outline: empty(),
-    }
-}
-
-pub fn outline_of(plane: Plane, s: &[f64]) -> Outlined
+// The corners of a facet in its plane, or the first refusal among them.
+pub fn outline_of(plane: Plane, s: &[f64]) -> Result<Outline, Refusal>
     requires { length s.now / 3 ≤ 128 }
     ensures { result ≡ outlined (each (projected_of plane) [] (facet_of s.now)) }
 {
     let n = s.len() / 3;
     let mut out = empty();
-    let mut i = 0;
-    while i < n {
-        let made = projected(plane, corner(s, i));
-        match made {
-            Shadow::Made(q) => {
-                out.at[i] = q;
-            }
-            Shadow::Refused(r) => {
-                return refused(r);
-            }
-        }
-        i += 1;
+    for i in 0..n {
+        out.at[i] = projected(plane, corner(s, i))?;
     }
     out.n = n;
-    Outlined {
-        verdict: Verdict::Fine,
-        outline: out,
-    }
+    Ok(out)
 }

@@ -21,26 +21,24 @@ fn put_coordinates(out: &mut [f64], at: usize, p: Point3)
 }
 
 // n points that begin at a place, three numbers a point.
+#[tactic(auto, using(crate::proofs::Turns::point_start, crate::proofs::Turns::point_turn, crate::proofs::Turns::point_end))]
 pub fn unpack_points(job: &[u8], start: usize, n: usize, out: &mut [f64])
     requires { 3 * n ≤ length out.old }
     ensures { out.new ≡ sets out.old 0 (flat (points_from job.now start n)) }
 {
-    let mut i = 0;
-    while i < n {
+    for i in 0..n {
         put_coordinates(out, 3 * i, job::point_at(job, start, i));
-        i += 1;
     }
 }
 
 // The indices of n corners that begin at a place, stored from k on.
+#[tactic(auto, using(crate::proofs::Turns::index_start, crate::proofs::Turns::index_end))]
 fn unpack_corners(job: &[u8], at: usize, n: usize, out: &mut [u64], k: usize)
     requires { (at + 3 * n ≤ length job.now) × (k + n ≤ length out.old) }
     ensures { out.new ≡ sets out.old k (corners_from job.now at n) }
 {
-    let mut j = 0;
-    while j < n {
+    for j in 0..n {
         out[k + j] = words::index_at(job, at + 3 * j + 1);
-        j += 1;
     }
 }
 
@@ -53,6 +51,7 @@ pub fn unpack_faces(job: &[u8], middle: usize, counts: &mut [u64], indices: &mut
     let mut at = middle;
     let mut f = 0;
     let mut k = 0;
+    // How many faces there are, only reading them says, and at jumps over the corners of each.
     while job::stands(job, at, 3, 0) {
         let n = job::run(job, at + 1, 4, 2);
         counts[f] = n as u64;
@@ -106,6 +105,7 @@ pub fn put_end(out: &mut [u8], at: usize)
     out[at] = 5;
 }
 
+#[tactic(auto, unfolding(job::specs::Bytes::operation_byte))]
 fn operation_byte(o: Operation) -> u8
     ensures { result ≡ operation_byte o }
 {

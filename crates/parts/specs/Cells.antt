@@ -1,12 +1,10 @@
 -- The cells of each body: facets meet by their keys, and cells connect through the facets that they share.
-use Rattle.std.specs.Prelude.{◌≡◌, List, ℕ, ◌*◌, ◌≤◌, ◌<◌, length, get_or, take}
+use Rattle.std.specs.Prelude.{◌≡◌, List, ℕ, ◌*◌, ◌≤◌, ◌<◌, length, get_or, take, Ok, Err}
 use Rattle.std.proofs.Common.{sym, ap₂, ◌∙◌, arith, length-take-le}
 use Rattle.std.proofs.Math.Path.{ap, subst}
 use Rattle.refusal.specs.declared.Refusal.{Refusal}
-use Rattle.refusal.specs.declared.Verdict.TheVariants.{Fine, Refused}
-use Rattle.refusal.specs.Outcome.{heard}
-use Rattle.refusal.specs.Laws.{never_fine}
-use Rattle.sums.specs.Sum.{Each}
+use Rattle.refusal.specs.Outcome.{Outcome, verdict_of}
+use Rattle.refusal.specs.Laws.{same_ok, never_ok}
 use Rattle.sums.specs.Keys.{pairs}
 use Rattle.sums.specs.KeyLaws.{Sharing}
 use Rattle.sums.proofs.KeyLaws.{each_map, each_imp, pairs_each}
@@ -40,12 +38,12 @@ pub record Places (v : List ℕ) (f n : ℕ) (k o x e d s c u : List ℕ) : Type
 abbrev pub Celled : List ℕ → ℕ → ℕ → Type 0
 Celled owners f n = (i : ℕ) → i < f → get_or owners i 0 < n
 
--- 18 and 19; where the facets are fine, those of one cell alone and the cells of each body.
-pub record Parting (fs : List Facet) (n : ℕ) (c₀ u₀ x c u : List ℕ) (r : Parted) : Type 0 where
-  pub told : heard r.verdict tt ≡ check_facets fs
-  pub listed : r.verdict ≡ Fine → take r.listed x ≡ exterior fs
-  pub few : r.verdict ≡ Fine → r.listed ≤ length x
-  pub groups : r.verdict ≡ Fine → Grouped (materials fs n) c₀ u₀ c u r.groups
+-- 18 and 19, or where the facets are fine, those of one cell alone and the cells of each body.
+pub record Parting (fs : List Facet) (n : ℕ) (c₀ u₀ x c u : List ℕ) (r : Outcome Parted) : Type 0 where
+  pub told : verdict_of r ≡ check_facets fs
+  pub listed : (p : Parted) → r ≡ Ok p → take p.listed x ≡ exterior fs
+  pub few : (p : Parted) → r ≡ Ok p → p.listed ≤ length x
+  pub groups : (p : Parted) → r ≡ Ok p → Grouped (materials fs n) c₀ u₀ c u p.groups
 
 module _ (v starts owners : List ℕ) (f n : ℕ) where
   pub valid_cells : Celled owners f n → Valid (facets_of v starts owners f) n
@@ -66,19 +64,25 @@ module _ (v starts owners : List ℕ) (f n : ℕ) where
       (each_imp (Sharing (keys fs)) (λ p. (cell_of fs p.0 < n) × (cell_of fs p.1 < n)) (pairs (keys fs))
       (λ p q. (valid p.0 (omega (arith, q.first, size fs)), valid p.1 (omega (arith, q.second, size fs)))) (pairs_each (keys fs))))
 
-  module _ (x e : List ℕ) (m : Met) (w : Met_all (facets_of v starts owners f) x e m) where
-    pub part_refused : (r : Refusal) (c₀ u₀ c u : List ℕ) → m.verdict ≡ Refused r → Parting (facets_of v starts owners f) n c₀ u₀ x c u (record { verdict = m.verdict; listed = 0; groups = 0 })
-    part_refused r c₀ u₀ c u q = record { told = w.told; listed = λ t. never_fine (sym q ∙ t); few = λ t. never_fine (sym q ∙ t); groups = λ t. never_fine (sym q ∙ t) }
+  module _ (x e : List ℕ) (o : Outcome Met) (w : Met_all (facets_of v starts owners f) x e o) where
+    pub part_refused : (r : Refusal) (p : Outcome Parted) (c₀ u₀ c u : List ℕ) → o ≡ Err r → p ≡ Err r → Parting (facets_of v starts owners f) n c₀ u₀ x c u p
+    unfolding verdict_of
+    part_refused r p c₀ u₀ c u q z = record {
+      told = ap verdict_of z ∙ sym (ap verdict_of q) ∙ w.told;
+      listed = λ n t. never_ok (sym z ∙ t);
+      few = λ n t. never_ok (sym z ∙ t);
+      groups = λ n t. never_ok (sym z ∙ t);
+    }
 
-    module _ (t : m.verdict ≡ Fine) (s : List ℕ) (h : n ≤ length s) where
+    module _ (m : Met) (t : o ≡ Ok m) (s : List ℕ) (h : n ≤ length s) where
       pub part_within : Celled owners f n → Within (take (2 * m.pairs) e) (length (take n s))
-      part_within q = subst (λ k. Within (take (2 * m.pairs) e) k) (sym (length-take-le n s h)) (subst (λ l. Within l n) (sym (w.paired t)) (cells_within q))
+      part_within q = subst (λ k. Within (take (2 * m.pairs) e) k) (sym (length-take-le n s h)) (subst (λ l. Within l n) (sym (w.paired m t)) (cells_within q))
 
-      pub part_made : (c₀ u₀ c u : List ℕ) (g : ℕ) → Grouped (components (length (take n s)) (joins_of (take (2 * m.pairs) e))) c₀ u₀ c u g → Parting (facets_of v starts owners f) n c₀ u₀ x c u (record { verdict = Fine; listed = m.listed; groups = g })
-      unfolding heard materials
+      pub part_made : (c₀ u₀ c u : List ℕ) (g : ℕ) → Grouped (components (length (take n s)) (joins_of (take (2 * m.pairs) e))) c₀ u₀ c u g → Parting (facets_of v starts owners f) n c₀ u₀ x c u (Ok (record { listed = m.listed; groups = g }))
+      unfolding verdict_of materials
       part_made c₀ u₀ c u g q = record {
-        told = ap (λ v. heard v tt) (sym t) ∙ w.told;
-        listed = λ _. w.listed t;
-        few = λ _. w.few t;
-        groups = λ _. subst (λ gs. Grouped gs c₀ u₀ c u g) (ap₂ components (length-take-le n s h) (ap joins_of (w.paired t) ∙ joins_ends (interfaces (facets_of v starts owners f)))) q;
+        told = sym (ap verdict_of t) ∙ w.told;
+        listed = λ p z. ap (λ p. take p.listed x) (sym (same_ok z)) ∙ w.listed m t;
+        few = λ p z. omega (arith, ap (λ p. p.listed) (same_ok z), w.few m t);
+        groups = λ p z. subst (λ p. Grouped (materials (facets_of v starts owners f) n) c₀ u₀ c u p.groups) (same_ok z) (subst (λ gs. Grouped gs c₀ u₀ c u g) (ap₂ components (length-take-le n s h) (ap joins_of (w.paired m t) ∙ joins_ends (interfaces (facets_of v starts owners f)))) q);
       }

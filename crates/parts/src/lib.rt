@@ -6,12 +6,11 @@ ghost use Rattle.keys.specs.Rows.{Starts};
 ghost use Rattle.interfaces.specs.Facets.{facets_of};
 ghost use Rattle.parts.specs.Cells.{Places, Celled, Parting};
 
-use refusal::{Refusal, Verdict};
+use refusal::Refusal;
 
-// The facets' verdict, how many are of one cell alone, and how many bodies there are.
+// How many facets are of one cell alone, and how many bodies there are.
 #[derive(Clone, Copy)]
 pub struct Parted {
-    pub verdict: Verdict,
     pub listed: usize,
     pub groups: usize,
 }
@@ -32,26 +31,16 @@ pub fn part_cells(
     s: &mut [u64],
     cells: &mut [u64],
     cuts: &mut [u64],
-) -> Parted
+) -> Result<Parted, Refusal>
     requires starts { Starts v.now starts.now f × (f ≤ length owners.now) × Celled owners.now f n }
     requires places { Places v.now f n k.old ord.old ext.old ends.old d.old s.old cells.old cuts.old }
     ensures { Parting (facets_of v.now starts.now owners.now f) n cells.old cuts.old ext.new cells.new cuts.new result }
 {
     keys::make_keys(v, starts, f, k);
     keys::sort_keys(k, starts, f, ord);
-    let m = interfaces::meet_facets(v, starts, owners, f, k, ord, ext, ends);
-    let verdict = m.verdict;
-    let listed = m.listed;
-    let p = m.pairs;
-    let Verdict::Fine = verdict else {
-        return Parted {
-            verdict,
-            listed: 0,
-            groups: 0,
-        };
-    };
+    let m = interfaces::meet_facets(v, starts, owners, f, k, ord, ext, ends)?;
     let groups = groups::components(
-        &ends[..2 * p],
+        &ends[..2 * m.pairs],
         &mut d[..n],
         k,
         &mut s[..n],
@@ -59,9 +48,8 @@ pub fn part_cells(
         cells,
         cuts,
     );
-    Parted {
-        verdict: Verdict::Fine,
-        listed,
+    Ok(Parted {
+        listed: m.listed,
         groups,
-    }
+    })
 }

@@ -1,4 +1,5 @@
 -- The two loops of `unique`: what stands at their heads, and how a turn keeps it.
+use Rattle.std.specs.Prelude.{Ok, Err}
 use mathlib.Core.Path.{◌≡◌, refl, sym, ap, ◌∙◌}
 use mathlib.Core.List.{List, [], ◌∷◌, ◌++◌}
 use Prim.Native.Nat.{ℕ, zero, suc, ◌+◌, ◌*◌, ◌<◌, ◌≤◌}
@@ -8,17 +9,16 @@ use lib.ListN.{length, take, drop, get_or, set, length-append}
 use lib.Seq.{take_all}
 use lib.Ieee.{Float}
 use Rattle.refusal.specs.declared.Refusal.{Refusal}
-use Rattle.refusal.specs.declared.Verdict.TheVariants.{Fine}
-use Rattle.refusal.specs.Outcome.{ok, refused, walk}
+use Rattle.refusal.specs.Outcome.{Outcome, walk}
 use Rattle.refusal.specs.Laws.{walk_end}
 use Rattle.lists.specs.Laws.{next, done, pad_set}
 use Rattle.space.specs.declared.Point3.{Point3}
 use Rattle.space.specs.declared.Precision.{Precision}
 use Rattle.space.specs.declared.Closeness.{Closeness}
-use Rattle.space.specs.declared.Closeness.TheVariants.{Near, Apart, Refused}
+use Rattle.space.specs.declared.Closeness.TheVariants.{Near, Apart}
 use Rattle.space.specs.Near.{near_of}
 use Rattle.space.specs.Vector.{origin, nowhere}
-use Rattle.polygon.specs.declared.Made.{Made}
+use Rattle.polygon.specs.declared.Polygon.{Polygon}
 use Rattle.polygon.specs.Polygons.{padded, polygon, made}
 use Rattle.polygon.specs.Memory.{point_at, points_at}
 use Rattle.polygon.specs.Unique.{both, scan, keep_one, unique}
@@ -26,21 +26,21 @@ use Rattle.polygon.specs.Laws.{corners_polygon, length_padded, keep_near, keep_a
 use Rattle.polygon.specs.MemoryLaws.{length_points_at}
 
 -- q was compared with j of the m kept corners in the array a
-pub record Scanned (t : Precision) (q : Point3) (a : List Point3) (m : ℕ) (s : Closeness) (j : ℕ) : Type 0 where
+pub record Scanned (t : Precision) (q : Point3) (a : List Point3) (m : ℕ) (s : Outcome Closeness) (j : ℕ) : Type 0 where
   pub low : j ≤ m
-  pub rest : scan t q s (drop j (take m a)) ≡ scan t q Apart (take m a)
+  pub rest : scan t q s (drop j (take m a)) ≡ scan t q (Ok Apart) (take m a)
 
-pub scanned_start : {t : Precision} {q : Point3} {a : List Point3} {m : ℕ} → Scanned t q a m Apart 0
+pub scanned_start : {t : Precision} {q : Point3} {a : List Point3} {m : ℕ} → Scanned t q a m (Ok Apart) 0
 scanned_start = record { low = omega arith; rest = refl }
 
-pub scanned_step : {t : Precision} {q : Point3} {a : List Point3} {m : ℕ} {s : Closeness} {j : ℕ} →
+pub scanned_step : {t : Precision} {q : Point3} {a : List Point3} {m : ℕ} {s : Outcome Closeness} {j : ℕ} →
     Scanned t q a m s j → j < m → m ≤ length a → Scanned t q a m (both s (near_of t q (get_or a j nowhere))) (j + 1)
 scanned_step {t} {q} {a} {m} {s} {j} I h k = record {
   low = omega arith;
   rest = sym (scan_next t q s (get_or a j nowhere) (drop (j + 1) (take m a))) ∙ (rw (next a m j nowhere h k) at I.rest);
 }
 
-pub scanned_end : {t : Precision} {q : Point3} {a : List Point3} {m : ℕ} {s : Closeness} {j : ℕ} → Scanned t q a m s j → m ≤ j → s ≡ scan t q Apart (take m a)
+pub scanned_end : {t : Precision} {q : Point3} {a : List Point3} {m : ℕ} {s : Outcome Closeness} {j : ℕ} → Scanned t q a m s j → m ≤ j → s ≡ scan t q (Ok Apart) (take m a)
 scanned_end {t} {q} {a} {m} {s} {j} I h = sym (scan_done t q s) ∙ (rw (done a m j h) at I.rest)
 
 -- of the first n of l, i were taken, and m of them are kept in the array a
@@ -61,13 +61,13 @@ module _ {t : Precision} {l : List Point3} {n : ℕ} {a : List Point3} {m i : �
   pub held : take m a ≡ I.kept
   held = ap (λ b. take m b) I.array ∙ ap (λ k. take k (padded I.kept)) I.count ∙ corners_polygon I.kept
 
-  heard : {c : Closeness} (q : Point3) → c ≡ scan t q Apart (take m a) → scan t q Apart I.kept ≡ c
-  heard q e = sym (e ∙ ap (scan t q Apart) held)
+  heard : {c : Outcome Closeness} (q : Point3) → c ≡ scan t q (Ok Apart) (take m a) → scan t q (Ok Apart) I.kept ≡ c
+  heard q e = sym (e ∙ ap (scan t q (Ok Apart)) held)
 
   onward : (q : Point3) → q ≡ get_or l i nowhere → i < n → walk (keep_one t) I.kept (q ∷ drop (i + 1) (take n l)) ≡ unique t (take n l)
   onward q g h = ap (λ x. walk (keep_one t) I.kept (x ∷ drop (i + 1) (take n l))) g ∙ (rw (next l n i nowhere h I.long) at I.rest)
 
-  pub kept_near : (q : Point3) → q ≡ get_or l i nowhere → i < n → Near ≡ scan t q Apart (take m a) → Kept t l n a m (i + 1)
+  pub kept_near : (q : Point3) → q ≡ get_or l i nowhere → i < n → (Ok Near) ≡ scan t q (Ok Apart) (take m a) → Kept t l n a m (i + 1)
   kept_near q g h e = record {
     kept = I.kept;
     array = I.array;
@@ -79,7 +79,7 @@ module _ {t : Precision} {l : List Point3} {n : ℕ} {a : List Point3} {m i : �
     rest = sym (keep_near t I.kept q (drop (i + 1) (take n l)) (heard q e)) ∙ onward q g h;
   }
 
-  pub kept_apart : (q : Point3) → q ≡ get_or l i nowhere → i < n → Apart ≡ scan t q Apart (take m a) → Kept t l n (set a m q) (m + 1) (i + 1)
+  pub kept_apart : (q : Point3) → q ≡ get_or l i nowhere → i < n → (Ok Apart) ≡ scan t q (Ok Apart) (take m a) → Kept t l n (set a m q) (m + 1) (i + 1)
   kept_apart q g h e = record {
     kept = I.kept ++ (q ∷ []);
     array = ap (λ b. set b m q) I.array ∙ ap (λ k. set (padded I.kept) k q) I.count
@@ -92,15 +92,15 @@ module _ {t : Precision} {l : List Point3} {n : ℕ} {a : List Point3} {m i : �
     rest = sym (keep_apart t I.kept q (drop (i + 1) (take n l)) (heard q e)) ∙ onward q g h;
   }
 
-  pub kept_refused : {r : Refusal} (q : Point3) → q ≡ get_or l i nowhere → i < n → Refused r ≡ scan t q Apart (take m a) → unique t (take n l) ≡ refused r
+  pub kept_refused : {r : Refusal} (q : Point3) → q ≡ get_or l i nowhere → i < n → Err r ≡ scan t q (Ok Apart) (take m a) → unique t (take n l) ≡ Err r
   kept_refused {r} q g h e = sym (onward q g h) ∙ keep_refused t I.kept q (drop (i + 1) (take n l)) r (heard q e)
 
-  pub kept_end : n ≤ i → record { verdict = Fine; polygon = record { at = a; n = m } } ≡ made (unique t (take n l))
+  pub kept_end : n ≤ i → Ok (record { at = a; n = m }) ≡ made (unique t (take n l))
   unfolding made
   kept_end h =
-      let e : ok I.kept ≡ unique t (take n l) = sym (walk_end (keep_one t) I.kept) ∙ (rw (done l n i h) at I.rest) in
-      ap {B = Made} (λ b. record { verdict = Fine; polygon = record { at = b; n = m } }) I.array
-      ∙ ap {B = Made} (λ k. record { verdict = Fine; polygon = record { at = padded I.kept; n = k } }) I.count ∙ ap made e
+      let e : Ok I.kept ≡ unique t (take n l) = sym (walk_end (keep_one t) I.kept) ∙ (rw (done l n i h) at I.rest) in
+      ap {B = Outcome Polygon} (λ b. Ok (record { at = b; n = m })) I.array
+      ∙ ap {B = Outcome Polygon} (λ k. Ok (record { at = padded I.kept; n = k })) I.count ∙ ap made e
 
 kept_start : (t : Precision) (l : List Point3) (n : ℕ) → n ≤ 128 → n ≤ length l → Kept t l n (padded []) 0 0
 unfolding unique

@@ -1,15 +1,15 @@
 -- Laws of polygons and of `unique` that their callers cite.
-use Rattle.std.specs.Prelude.{◌≡◌, refl, List, [], ◌∷◌, ◌++◌, ◌+◌, ◌-◌, ◌<◌, ◌≤◌, length, replicate}
+use Rattle.std.specs.Prelude.{◌≡◌, refl, List, [], ◌∷◌, ◌++◌, ◌+◌, ◌-◌, ◌<◌, ◌≤◌, length, replicate, Ok, Err}
 use Rattle.std.proofs.Common.{sym, ap, arith, length-append, take_at}
 use Rattle.std.proofs.lemmas.List.{length-replicate}
 use Rattle.refusal.specs.declared.Refusal.{Refusal}
-use Rattle.refusal.specs.Outcome.{refused, walk}
+use Rattle.refusal.specs.Outcome.{Outcome, walk}
 use Rattle.refusal.specs.Laws.{walk_go, walk_stop}
 use Rattle.lists.specs.Laws.{pad_set}
 use Rattle.space.specs.declared.Point3.{Point3}
 use Rattle.space.specs.declared.Precision.{Precision}
 use Rattle.space.specs.declared.Closeness.{Closeness}
-use Rattle.space.specs.declared.Closeness.TheVariants.{Near, Apart, Refused}
+use Rattle.space.specs.declared.Closeness.TheVariants.{Near, Apart}
 use Rattle.space.specs.Near.{near_of}
 use Rattle.space.specs.Vector.{origin}
 use Rattle.polygon.specs.declared.Polygon.{Polygon}
@@ -31,30 +31,30 @@ length_padded l h = omega (arith, length-append l (replicate (128 - length l) or
 -- ---- one turn of `unique`, by what the scan of the kept points says
 
 module _ (t : Precision) (kept : List Point3) (q : Point3) (l : List Point3) where
-  pub keep_near : scan t q Apart kept ≡ Near → walk (keep_one t) kept (q ∷ l) ≡ walk (keep_one t) kept l
+  pub keep_near : scan t q (Ok Apart) kept ≡ Ok Near → walk (keep_one t) kept (q ∷ l) ≡ walk (keep_one t) kept l
   unfolding keep_one keep_if
   keep_near e = walk_go (keep_one t) kept q l kept (ap (λ c. keep_if c kept q) e)
 
-  pub keep_apart : scan t q Apart kept ≡ Apart → walk (keep_one t) kept (q ∷ l) ≡ walk (keep_one t) (kept ++ (q ∷ [])) l
+  pub keep_apart : scan t q (Ok Apart) kept ≡ Ok Apart → walk (keep_one t) kept (q ∷ l) ≡ walk (keep_one t) (kept ++ (q ∷ [])) l
   unfolding keep_one keep_if
   keep_apart e = walk_go (keep_one t) kept q l (kept ++ (q ∷ [])) (ap (λ c. keep_if c kept q) e)
 
-  pub keep_refused : (r : Refusal) → scan t q Apart kept ≡ Refused r → walk (keep_one t) kept (q ∷ l) ≡ refused r
+  pub keep_refused : (r : Refusal) → scan t q (Ok Apart) kept ≡ Err r → walk (keep_one t) kept (q ∷ l) ≡ Err r
   unfolding keep_one keep_if
   keep_refused r e = walk_stop (keep_one t) kept q l r (ap (λ c. keep_if c kept q) e)
 
 -- a point that is apart changes nothing
-pub both_apart : (s : Closeness) → both s Apart ≡ s
+pub both_apart : (s : Outcome Closeness) → both s (Ok Apart) ≡ s
 unfolding both
-both_apart Near = refl
-both_apart Apart = refl
-both_apart (Refused r) = refl
+both_apart (Ok Near) = refl
+both_apart (Ok Apart) = refl
+both_apart (Err r) = refl
 
 -- one turn of a scan, and its end
-pub scan_next : (t : Precision) (q : Point3) (s : Closeness) (r : Point3) (l : List Point3) → scan t q s (r ∷ l) ≡ scan t q (both s (near_of t q r)) l
+pub scan_next : (t : Precision) (q : Point3) (s : Outcome Closeness) (r : Point3) (l : List Point3) → scan t q s (r ∷ l) ≡ scan t q (both s (near_of t q r)) l
 unfolding scan
 scan_next t q s r l = refl
 
-pub scan_done : (t : Precision) (q : Point3) (s : Closeness) → scan t q s [] ≡ s
+pub scan_done : (t : Precision) (q : Point3) (s : Outcome Closeness) → scan t q s [] ≡ s
 unfolding scan
 scan_done t q s = refl

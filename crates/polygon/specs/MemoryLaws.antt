@@ -1,5 +1,5 @@
 -- Laws of points in a slice of f64.
-use Rattle.std.specs.Prelude.{◌≡◌, Bool, List, [], ◌∷◌, ◌++◌, length, get_or, set, Float}
+use Rattle.std.specs.Prelude.{◌≡◌, Bool, List, [], ◌∷◌, ◌++◌, length, get_or, set, Float, Ok}
 use Rattle.std.proofs.Math.Path.{refl, ap}
 use Rattle.std.proofs.Common.{sym, ◌∙◌, add-one, length-set, get_or-set_same, get_or-set_other}
 use Prim.Native.Nat.{ℕ, zero, suc, ◌+◌, ◌-◌, ◌*◌, ◌<◌, ◌≤◌}
@@ -100,6 +100,6 @@ unfolding far_at
 far_here g q s k p v b e f h = ap (λ z. is_far g (sub binary64 q.x z.x) (sub binary64 q.y z.y) (sub binary64 q.z z.z)) (sym e) ∙ sym f ∙ h
 
 -- they are apart, so whatever a point that is apart keeps holds behind them
-pub pass_over : (P : ℕ → Type 0) (t : Precision) (g : Float) (q : Point3) (s : List Float) {m i r : ℕ} → Stops (far_at g q s) m i r → g ≡ reach_of t → ((x : ℕ) → x < m → near_of t q (point_at s (3 * x)) ≡ Apart → P x → P (x + 1)) → P i → P r
+pub pass_over : (P : ℕ → Type 0) (t : Precision) (g : Float) (q : Point3) (s : List Float) {m i r : ℕ} → Stops (far_at g q s) m i r → g ≡ reach_of t → ((x : ℕ) → x < m → near_of t q (point_at s (3 * x)) ≡ Ok Apart → P x → P (x + 1)) → P i → P r
 unfolding far_at
 pass_over P t g q s S e step = run_over S.run P (λ x h f. step x h (reach_apart t g q (point_at s (3 * x)) e f))

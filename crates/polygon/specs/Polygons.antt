@@ -1,11 +1,9 @@
 -- How a list of at most 128 corners lies in a Polygon. Definitions only.
-use Rattle.std.specs.Prelude.{List, [], ◌++◌, ◌+◌, ◌-◌, length, take, set, replicate}
-use Rattle.refusal.specs.declared.Verdict.TheVariants.{Fine, Refused}
-use Rattle.refusal.specs.Outcome.{Outcome, ok, refused}
+use Rattle.std.specs.Prelude.{List, [], ◌++◌, ◌+◌, ◌-◌, length, take, set, replicate, Ok, Err}
+use Rattle.refusal.specs.Outcome.{Outcome}
 use Rattle.space.specs.declared.Point3.{Point3}
 use Rattle.space.specs.Vector.{origin}
 use Rattle.polygon.specs.declared.Polygon.{Polygon}
-use Rattle.polygon.specs.declared.Made.{Made}
 
 -- the corners of a polygon
 abbrev pub corners_of : Polygon → List Point3
@@ -22,7 +20,7 @@ polygon l = record { at = padded l; n = length l }
 abbrev pub pushed : Polygon → Point3 → Polygon
 pushed p q = record { at = set p.at p.n q; n = p.n + 1 }
 
--- what the code answers for an outcome of at most 128 corners: an empty polygon stands beside a refusal
-unfoldable pub made : Outcome (List Point3) → Made
-made (ok l) = record { verdict = Fine; polygon = polygon l }
-made (refused r) = record { verdict = Refused r; polygon = polygon [] }
+-- what the code answers for an outcome of at most 128 corners
+unfoldable pub made : Outcome (List Point3) → Outcome Polygon
+made (Ok l) = Ok (polygon l)
+made (Err r) = Err r

@@ -1,6 +1,6 @@
 #![tactic(auto)]
 
-// A refusal, and the verdict that stands beside an answer that holds an array.
+// A refusal: the error of every function that can refuse.
 ghost use Rattle.std.specs.Prelude.{◌≡◌};
 ghost use Rattle.refusal.specs.Outcome.{refusal_of};
 
@@ -8,12 +8,6 @@ ghost use Rattle.refusal.specs.Outcome.{refusal_of};
 #[derive(Clone, Copy)]
 pub struct Refusal {
     pub number: u64,
-}
-
-#[derive(Clone, Copy)]
-pub enum Verdict {
-    Fine,
-    Refused(Refusal),
 }
 
 pub fn refuse(number: u64) -> Refusal

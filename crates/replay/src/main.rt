@@ -5,7 +5,8 @@
 ghost use Rattle.std.specs.Prelude.{◌≤◌};
 ghost use Rattle.std.specs.Io.{ReadsAtMost};
 
-use interval::{Interval, Inverse, Sign};
+use interval::{Interval, Sign};
+use refusal::Refusal;
 use space::{Closeness, Frame, Plane, Point3, Precision};
 use std::io;
 use std::io::Read;
@@ -43,10 +44,10 @@ fn ends(i: Interval) -> Answer {
 }
 
 // 1 and 0, which no interval is, for nothing.
-fn inverse(v: Inverse) -> Answer {
+fn inverse(v: Option<Interval>) -> Answer {
     match v {
-        Inverse::Value(i) => ends(i),
-        Inverse::Nothing => number(1),
+        Some(i) => ends(i),
+        None => number(1),
     }
 }
 
@@ -68,29 +69,34 @@ fn exact_turn(t: exact::Turn) -> Answer {
     }
 }
 
-fn closeness(c: Closeness) -> Answer {
+fn closeness(c: Closeness) -> u64 {
     match c {
-        Closeness::Near => number(1),
-        Closeness::Apart => number(0),
-        Closeness::Refused(r) => number(r.number),
+        Closeness::Near => 1,
+        Closeness::Apart => 0,
     }
 }
 
-fn side_answer(s: side::Side) -> Answer {
+fn side_number(s: side::Side) -> u64 {
     match s {
-        side::Side::Positive => number(1),
-        side::Side::Negative => number(2),
-        side::Side::Zero => number(0),
-        side::Side::Refused(r) => number(r.number),
+        side::Side::Positive => 1,
+        side::Side::Negative => 2,
+        side::Side::Zero => 0,
     }
 }
 
-fn turn_answer(t: turns::Turn) -> Answer {
+fn turn_number(t: turns::Turn) -> u64 {
     match t {
-        turns::Turn::Positive => number(1),
-        turns::Turn::Negative => number(2),
-        turns::Turn::Zero => number(0),
-        turns::Turn::Refused(r) => number(r.number),
+        turns::Turn::Positive => 1,
+        turns::Turn::Negative => 2,
+        turns::Turn::Zero => 0,
+    }
+}
+
+// The answer's number, or that of the refusal.
+fn told(n: Result<u64, Refusal>) -> Answer {
+    match n {
+        Ok(n) => number(n),
+        Err(r) => number(r.number),
     }
 }
 
@@ -150,18 +156,16 @@ fn precision(local: f64) -> Precision {
 }
 
 fn near_answer(v: [f64; 17]) -> Answer {
-    closeness(space::near(
-        precision(v[6]),
-        point(v[0], v[1], v[2]),
-        point(v[3], v[4], v[5]),
-    ))
+    let a = point(v[0], v[1], v[2]);
+    let b = point(v[3], v[4], v[5]);
+    told(space::near(precision(v[6]), a, b).map(closeness))
 }
 
 fn orientation(v: [f64; 17]) -> Answer {
     let a = shadow(v[0], v[1], v[2], v[3]);
     let b = shadow(v[4], v[5], v[6], v[7]);
     let c = shadow(v[8], v[9], v[10], v[11]);
-    turn_answer(turns::orientation(precision(v[12]), a, b, c))
+    told(turns::orientation(precision(v[12]), a, b, c).map(turn_number))
 }
 
 fn contains_range(v: [f64; 17]) -> Answer {
@@ -175,7 +179,9 @@ fn places(kind: u64, v: [f64; 17]) -> Answer {
     match kind {
         16 => near_answer(v),
         17 => ends(side::distance(plane(v), point(v[12], v[13], v[14]))),
-        18 => side_answer(side::side_of(plane(v), point(v[12], v[13], v[14]), precision(v[15]))),
+        18 => told(side::side_of(plane(v), point(v[12], v[13], v[14]), precision(v[15])).map(
+            side_number,
+        )),
         19 => orientation(v),
         _ => contains_range(v),
     }
@@ -194,25 +200,11 @@ fn answered(kind: u64, v: [f64; 17]) -> Answer {
 fn given(list: &[u8], at: usize) -> [f64; 17]
     requires { at ≤ 65536 }
 {
-    [
-        words::float_at(list, at + 8),
-        words::float_at(list, at + 16),
-        words::float_at(list, at + 24),
-        words::float_at(list, at + 32),
-        words::float_at(list, at + 40),
-        words::float_at(list, at + 48),
-        words::float_at(list, at + 56),
-        words::float_at(list, at + 64),
-        words::float_at(list, at + 72),
-        words::float_at(list, at + 80),
-        words::float_at(list, at + 88),
-        words::float_at(list, at + 96),
-        words::float_at(list, at + 104),
-        words::float_at(list, at + 112),
-        words::float_at(list, at + 120),
-        words::float_at(list, at + 128),
-        words::float_at(list, at + 136),
-    ]
+    let mut v = [0.0; 17];
+    for i in 0..17 {
+        v[i] = words::float_at(list, at + 8 + 8 * i);
+    }
+    v
 }
 
 // 1 where the answer of the record differs, else 0.
@@ -233,7 +225,7 @@ fn wrong_in(list: &[u8], n: usize) -> u64 {
     for i in 0..409usize {
         let at = 160 * i;
         if at + 160 <= n {
-            sum = std::num::wrapping_add_u64(sum, wrong(list, at));
+            sum = sum.wrapping_add(wrong(list, at));
         }
     }
     sum
@@ -244,6 +236,7 @@ fn read_full(from: &mut impl Read, list: &mut [u8]) -> io::Result<usize>
     ensures { ReadsAtMost result list.new }
 {
     let mut done = 0;
+    // A read may give fewer bytes than there is room for, so this is no counting loop.
     while done < list.len() {
         let n = from.read(&mut list[done..])?;
         if n == 0 {

@@ -1,23 +1,19 @@
 -- Laws of rooms: what was stored is read back, and what is stored behind it lengthens it.
-use Rattle.std.specs.Prelude.{◌≡◌, refl, ◌⊎◌, List, [], ◌∷◌, ◌++◌, ℕ, zero, suc, ◌+◌, ◌-◌, ◌*◌, ◌%◌, ◌≤◌, ◌<◌, length, take, drop, get_or, set, replicate, Float}
+use Rattle.std.specs.Prelude.{◌≡◌, refl, List, [], ◌∷◌, ◌++◌, ℕ, zero, suc, ◌+◌, ◌*◌, ◌%◌, ◌≤◌, ◌<◌, length, take, drop, get_or, set, replicate, Float}
 use Rattle.std.proofs.Common.{sym, ap, ◌∙◌, subst, inl, inr, append_assoc, append-nil, arith, not-suc-le-zero, le_of_suc-le-suc, add-zero, mod-lt, add-one, length-append, length-drop, length-take, drop_of_length-le, drop-cons, get_or-append-add, get_or-drop, get_or-set_other, length-take-le}
 use Rattle.std.proofs.Math.Numerals.{add-three}
 use Rattle.std.proofs.lemmas.List.Edits.{sets, sets-eq}
 use Rattle.std.specs.Float.{nan}
 use Rattle.space.specs.declared.Point3.{Point3}
-use Rattle.space.specs.declared.Frame.{Frame}
 use Rattle.space.specs.declared.Plane.{Plane}
 use Rattle.space.specs.Shapes.{Face, Cell, corners}
-use Rattle.space.specs.Vector.{origin}
 use Rattle.lists.specs.Walks.{Pair, cyclic}
 use Rattle.lists.specs.Laws.{next, done, next_pair, length_cyclic}
-use Rattle.polygon.specs.declared.Polygon.{Polygon}
-use Rattle.polygon.specs.Polygons.{polygon}
 use Rattle.polygon.specs.Memory.{floats, floats_of, point_at, points_at}
 use Rattle.polygon.specs.Members.{All}
 use Rattle.polygon.specs.MemoryLaws as M
 use Rattle.polygon.specs.MemoryLaws.{length_points_at, point_stored}
-use Rattle.room.specs.Rooms.{frame_floats, frame_at, plane_floats, plane_at, face_floats, cell_floats, cell_counts, face_at, cell_at, counts_at, Within, In, Small}
+use Rattle.room.specs.Rooms.{frame_floats, plane_floats, plane_at, face_floats, cell_floats, cell_counts, face_at, cell_at, counts_at, Within, In, Small}
 
 -- ---- runs of stores
 

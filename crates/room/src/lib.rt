@@ -20,14 +20,8 @@ pub fn put_points(s: &mut [f64], at: usize, p: Polygon)
     requires { (p.n ≤ 128) × (at + 3 * p.n ≤ length s.old) }
     ensures { s.new ≡ sets s.old at (floats_of (corners_of p)) }
 {
-    let n = p.n;
-    let mut i = 0;
-    let mut o = at;
-    while i < n {
-        let q = p.at[i];
-        polygon::put_point(s, o, q);
-        o += 3;
-        i += 1;
+    for i in 0..p.n {
+        polygon::put_point(s, at + 3 * i, p.at[i]);
     }
 }
 
@@ -90,15 +84,9 @@ fn copy_points(src: &[f64], from: usize, n: usize, s: &mut [f64], at: usize)
     requires { (from + 3 * n ≤ length src.now) × (at + 3 * n ≤ length s.old) }
     ensures { s.new ≡ sets s.old at (floats_of (points_at src.now from n)) }
 {
-    let mut i = 0;
-    let mut p = from;
-    let mut o = at;
-    while i < n {
-        let q = polygon::get_point(src, p);
-        polygon::put_point(s, o, q);
-        p += 3;
-        o += 3;
-        i += 1;
+    for i in 0..n {
+        let q = polygon::get_point(src, from + 3 * i);
+        polygon::put_point(s, at + 3 * i, q);
     }
 }
 
@@ -125,19 +113,11 @@ pub fn copy_face(
 pub fn zero(s: &mut [f64])
     ensures { s.new ≡ replicate (length s.old) (of_bits binary64 0) }
 {
-    let mut i = 0;
-    while i < s.len() {
-        s[i] = 0.0;
-        i += 1;
-    }
+    s.fill(0.0);
 }
 
 pub fn zero_counts(s: &mut [u64])
     ensures { s.new ≡ replicate (length s.old) 0 }
 {
-    let mut i = 0;
-    while i < s.len() {
-        s[i] = 0;
-        i += 1;
-    }
+    s.fill(0);
 }

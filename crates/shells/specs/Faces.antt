@@ -1,6 +1,9 @@
 -- The facets of a body: those of the listed ones whose cell is one of its cells.
 use Rattle.std.proofs.Math.Path.{◌≡◌, sym, ap, ap₂}
-use Rattle.std.specs.Prelude.{refl, ◌≢◌, Bool, true, false, List, [], ◌∷◌, ◌++◌, ℕ, zero, suc, ◌+◌, ◌-◌, ◌≤◌, ◌<◌, get_or, set, drop, eqb}
+use Rattle.std.specs.Prelude.{refl, ◌≢◌, Bool, true, false, List, [], ◌∷◌, ◌++◌, ℕ, zero, suc, ◌+◌, ◌≤◌, ◌<◌, get_or, set, drop, eqb, ◌||◌, T}
+use Rattle.std.specs.List.{list_any}
+use Rattle.std.proofs.Math.Dec.{eqb_refl}
+use Rattle.std.proofs.Common.{eqb→eq}
 use Rattle.std.proofs.Common.{◌∙◌, subst, ⊎_elim, append_assoc, append-nil, arith, add-one, length-set, drop_of_length-le, drop-cons, take-suc-set}
 use Rattle.std.proofs.Math.ListN.{length, take}
 use Rattle.sums.specs.Sum.{sum, hit, hit_cases, occ}
@@ -12,6 +15,16 @@ use Rattle.sums.specs.Keys.{put, keep}
 pub record Seeking (l : List ℕ) (x p : ℕ) : Type 0 where
   pub upto : p ≤ length l
   pub left : occ x (drop p l) ≡ occ x l
+
+false_true : ◌≡◌ {A = Bool} false true → ⊥
+false_true e = let z : ◌≡◌ {A = ℕ} 0 1 = cc in omega arith
+
+eqb_yes : (x : ℕ) → eqb x x ≡ true
+eqb_yes x = go (eqb x x) (eqb_refl x)
+  where
+    go : (b : Bool) → T b → b ≡ true
+    go true t = refl
+    go false t = absurd t
 
 -- The answer says whether x stands in the list.
 pub record Told (l : List ℕ) (x : ℕ) (r : Bool) : Type 0 where
@@ -35,6 +48,18 @@ module _ (l : List ℕ) (x : ℕ) where
   pub seeking_end : (p : ℕ) → length l ≤ p → Seeking l x p → Told l x false
   unfolding sum
   seeking_end p h w = record { yes = λ q. let z : ◌≡◌ {A = ℕ} 0 1 = cc in absurd (omega arith); no = λ _. sym w.left ∙ ap (occ x) (drop_of_length-le l h) }
+
+-- the library's answer is told
+pub told_any : (l : List ℕ) (x : ℕ) → Told l x (list_any (λ y. eqb y x) l)
+unfolding sum
+told_any [] x = record { yes = λ q. let z : ◌≡◌ {A = ℕ} 0 1 = cc in absurd (omega arith); no = λ _. refl }
+told_any (y ∷ l) x = go (eqb y x) refl (told_any l x)
+  where
+    go : (b : Bool) → eqb y x ≡ b → Told l x (list_any (λ y. eqb y x) l) → Told (y ∷ l) x (b || list_any (λ y. eqb y x) l)
+    go true e s = record { yes = λ _. omega (arith, ⊎_elim {C = hit x y ≡ 1} (λ c. c.1) (λ c. absurd (c.0 (sym (eqb→eq y x (subst T (sym e) tt))))) (hit_cases x y)); no = λ q. let z : ◌≡◌ {A = ℕ} 0 1 = cc in absurd (omega arith) }
+    go false e s =
+        let n : hit x y ≡ 0 = ⊎_elim {C = hit x y ≡ 0} (λ c. absurd (false_true (sym e ∙ ap (λ k. eqb k x) (sym c.0) ∙ eqb_yes x))) (λ c. c.1) (hit_cases x y) in
+        record { yes = λ q. omega (arith, n, s.yes q); no = λ q. omega (arith, n, s.no q) }
 
 -- ---- one facet
 

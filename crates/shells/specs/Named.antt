@@ -1,6 +1,6 @@
 -- Places in a body become facets.
-use Rattle.std.specs.Prelude.{◌≡◌, refl, List, [], ◌∷◌, ◌++◌, map, ℕ, zero, suc, ◌+◌, ◌-◌, ◌*◌, ◌/◌, ◌≤◌, ◌<◌, length, get_or, set, take, drop}
-use Rattle.std.proofs.Common.{sym, ap, ap₂, ◌∙◌, subst, ⊎_elim, append_assoc, append-nil, arith, add-one, length-set, take-append-drop, take_at, drop_at, get_or-take, take-suc, take-suc-set, drop-set-lt, drop-drop, get_or-drop}
+use Rattle.std.specs.Prelude.{◌≡◌, refl, List, [], ◌∷◌, ◌++◌, map, ℕ, zero, suc, ◌+◌, ◌*◌, ◌/◌, ◌≤◌, ◌<◌, length, get_or, set, take, drop}
+use Rattle.std.proofs.Common.{sym, ap, ap₂, ◌∙◌, ⊎_elim, arith, add-one, length-set, take-append-drop, take_at, drop_at, get_or-take, take-suc, take-suc-set, drop-set-lt, drop-drop, get_or-drop}
 use Rattle.std.proofs.lemmas.List.{map-append, length-map}
 use Rattle.std.proofs.Math.Decide.{dec_lt}
 use Rattle.sums.specs.Sum.{sum, sum_one, hit, hit_cases, Each}

@@ -9,25 +9,11 @@ ghost use Rattle.groups.specs.Groups.{Grouped, joins_of};
 ghost use Rattle.shells.specs.Faces.{Told, Owned, more, stored};
 ghost use Rattle.shells.specs.Named.{name_in, Placed, Spread};
 
-fn entry(l: &[u64], p: usize) -> u64
-    requires { p < length l.now }
-    ensures { result ≡ get_or l.now p 0 }
-{
-    l[p]
-}
-
 // Whether x stands in the list.
 fn contains(l: &[u64], x: u64) -> bool
     ensures { Told l.now x result }
 {
-    let mut p = 0;
-    while p < l.len() {
-        if l[p] == x {
-            return true;
-        }
-        p += 1;
-    }
-    false
+    l.contains(&x)
 }
 
 // One facet more, where it is of the body.
@@ -43,19 +29,16 @@ fn keep_face(faces: &mut [u64], m: usize, i: u64, own: bool) -> usize
 }
 
 // The facets of the body of some cells, in the order of their keys. Returns how many.
+#[tactic(auto, using(crate::specs::Faces::keeping_step, crate::specs::Faces::keeping_few, crate::specs::Faces::keeping_end))]
 pub fn body_faces(owners: &[u64], f: usize, ext: &[u64], cells: &[u64], faces: &mut [u64]) -> usize
     requires { Owned owners.now f ext.now × (length ext.now ≤ length faces.old) }
     ensures few { result ≤ length ext.now }
     ensures faces { take result faces.new ≡ keep (λ i. occ (get_or owners.now i 0) cells.now) ext.now }
 {
     let mut m = 0;
-    let mut q = 0;
-    while q < ext.len() {
-        let i = ext[q];
-        let c = entry(owners, i as usize);
-        let own = contains(cells, c);
-        m = keep_face(faces, m, i, own);
-        q += 1;
+    for i in ext {
+        let own = contains(cells, owners[*i as usize]);
+        m = keep_face(faces, m, *i, own);
     }
     m
 }
@@ -65,11 +48,8 @@ fn name_facets(faces: &[u64], nodes: &mut [u64], n: usize)
     requires { Placed faces.now nodes.old n }
     ensures { nodes.new ≡ map (name_in faces.now) (take n nodes.old) ++ drop n nodes.old }
 {
-    let mut i = 0;
-    while i < n {
-        let p = nodes[i] as usize;
-        nodes[i] = entry(faces, p);
-        i += 1;
+    for i in 0..n {
+        nodes[i] = faces[nodes[i] as usize];
     }
 }
 

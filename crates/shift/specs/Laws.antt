@@ -1,9 +1,9 @@
 -- Laws of a vertex and the faces that meet it.
-use Rattle.std.specs.Prelude.{◌≡◌, refl, Bool, true, false, not, cond, List, [], ◌∷◌, ◌++◌, ℕ, ◌+◌, ◌≤◌, length, eqb}
+use Rattle.std.specs.Prelude.{◌≡◌, refl, Bool, true, false, not, cond, List, [], ◌∷◌, ◌++◌, ℕ, ◌+◌, ◌≤◌, length, eqb, Err}
 use Rattle.std.proofs.Common.{sym, ◌∙◌, arith, length-append, eq-eqb, ne_eqb}
 use Rattle.std.proofs.Math.Path.{ap}
 use Rattle.refusal.specs.declared.Refusal.{Refusal}
-use Rattle.refusal.specs.Outcome.{Outcome, refused, refusal_of, unless}
+use Rattle.refusal.specs.Outcome.{Outcome, refusal_of, unless}
 use Rattle.space.specs.declared.Point3.{Point3}
 use Rattle.space.specs.declared.Precision.{Precision}
 use Rattle.space.specs.Vector.{add_v, cross_v}
@@ -43,9 +43,9 @@ meeting_count false l p j h = omega arith
 -- ---- the two ways of a vertex with three faces, and of one with another number
 
 module _ (t : Precision) (a b c : Push) (p n : Point3) where
-  pub by_flat : (f : Bool) (r : Refusal) → f ≡ flat a n → f ≡ true → r ≡ refusal_of 25 → refused r ≡ moved_by t a b c p n
+  pub by_flat : (f : Bool) (r : Refusal) → f ≡ flat a n → f ≡ true → r ≡ refusal_of 25 → Err r ≡ moved_by t a b c p n
   unfolding moved_by
-  by_flat f r e y z = ap refused z ∙ ap (λ x. unless x 25 (moved_to t a b c p (add_v p (delta_of a b c n)))) (sym y ∙ e)
+  by_flat f r e y z = ap Err z ∙ ap (λ x. unless x 25 (moved_to t a b c p (add_v p (delta_of a b c n)))) (sym y ∙ e)
 
   pub by_steep : (f : Bool) (d q : Point3) (o : Outcome Point3) → f ≡ flat a n → f ≡ false → d ≡ delta_of a b c n → q ≡ add_v p d → o ≡ moved_to t a b c p q → o ≡ moved_by t a b c p n
   unfolding moved_by
@@ -56,9 +56,9 @@ module _ (t : Precision) (p : Point3) (m : Meeting) where
   abbrev three : Outcome Point3
   three = moved_by t m.a m.b m.c p (cross_v m.b.normal m.c.normal)
 
-  pub at_other : (r : Refusal) → (m.n ≡ 3 → ⊥) → r ≡ refusal_of 24 → refused r ≡ moved_at t p m
+  pub at_other : (r : Refusal) → (m.n ≡ 3 → ⊥) → r ≡ refusal_of 24 → Err r ≡ moved_at t p m
   unfolding moved_at
-  at_other r e z = ap refused z ∙ ap (λ x. unless (not x) 24 three) (sym (ne_eqb _ _ e))
+  at_other r e z = ap Err z ∙ ap (λ x. unless (not x) 24 three) (sym (ne_eqb _ _ e))
 
   pub at_three : (n : Point3) (o : Outcome Point3) → m.n ≡ 3 → n ≡ cross_v m.b.normal m.c.normal → o ≡ moved_by t m.a m.b m.c p n → o ≡ moved_at t p m
   unfolding moved_at

@@ -1,8 +1,8 @@
 -- An offset at one vertex and of one plane: 24, 25, 26 and 5. Definitions only.
-use Rattle.std.specs.Prelude.{◌+◌, Bool, true, false, not, ◌||◌, cond, List, [], ◌∷◌, ◌++◌, length, get_or, eqb, Float}
+use Rattle.std.specs.Prelude.{◌+◌, Bool, true, false, not, ◌||◌, cond, List, [], ◌∷◌, ◌++◌, length, get_or, eqb, Float, Ok}
 use Rattle.std.specs.Float.{binary64}
 use Rattle.std.specs.Float.Ieee.{of_bits, div, neg, lt}
-use Rattle.refusal.specs.Outcome.{Outcome, then, ok, refused, unless}
+use Rattle.refusal.specs.Outcome.{Outcome, then, unless}
 use Rattle.interval.specs.declared.Interval.{Interval}
 use Rattle.interval.specs.Ends.{one, point_i, sub_i, holds_zero}
 use Rattle.interval.specs.Box.{dot_i}
@@ -13,14 +13,8 @@ use Rattle.space.specs.Vector.{sub_v, add_v, scale_v, dot_v, cross_v, box_of, or
 use Rattle.space.specs.Frames.{plane_of, with_mark}
 use Rattle.shift.specs.declared.Push.{Push}
 use Rattle.shift.specs.declared.Meeting.{Meeting}
-use Rattle.shift.specs.declared.Shifted.{Shifted}
-use Rattle.shift.specs.declared.Shifted.TheVariants as M
 
 -- what the answer of a moved point says
-unfoldable pub shifted_to : Shifted → Outcome Point3
-shifted_to (M.At q) = ok q
-shifted_to (M.Refused r) = refused r
-
 -- a face that meets a vertex: its normal, and how far it is pushed
 abbrev pub push_of : Plane → Float → Push
 push_of w d = record { normal = w.frame.z; by = d }
@@ -69,7 +63,7 @@ missed t a b c d = outside t (residual d a) || (outside t (residual d b) || outs
 
 -- 26: "residual"
 unfoldable pub moved_to : Precision → Push → Push → Push → Point3 → Point3 → Outcome Point3
-moved_to t a b c p q = unless (missed t a b c (sub_v q p)) 26 (ok q)
+moved_to t a b c p q = unless (missed t a b c (sub_v q p)) 26 (Ok q)
 
 -- 25: "determinant holds zero"
 unfoldable pub flat : Push → Point3 → Bool

@@ -2,13 +2,11 @@
 
 // An offset at one vertex and of one plane.
 ghost use Rattle.std.specs.Prelude.{◌≡◌, cond, [], ◌<◌};
-ghost use Rattle.refusal.specs.Outcome.{ok, unless};
-ghost use Rattle.space.specs.Frames.{planed};
-ghost use Rattle.shift.specs.Shifts.{shifted_to, meeting, noted, noted_if, delta_of, residual, outside, missed, moved_to, flat, moved_by, moved_at, moved_plane};
+ghost use Rattle.shift.specs.Shifts.{meeting, noted, noted_if, delta_of, residual, outside, missed, moved_to, flat, moved_by, moved_at, moved_plane};
 
 use interval::Interval;
 use refusal::Refusal;
-use space::{Plane, Planed, Point3, Precision};
+use space::{Plane, Point3, Precision};
 
 // A face that meets a vertex: its normal, and how far it is pushed.
 #[derive(Clone, Copy)]
@@ -26,13 +24,8 @@ pub struct Meeting {
     pub n: usize,
 }
 
-#[derive(Clone, Copy)]
-pub enum Shifted {
-    At(Point3),
-    Refused(Refusal),
-}
-
 // No face meets the vertex yet.
+#[tactic(auto, unfolding(crate::specs::Shifts::meeting))]
 pub fn alone() -> Meeting
     ensures { result ≡ meeting [] }
 {
@@ -57,6 +50,7 @@ fn chosen(new: bool, p: Push, old: Push) -> Push
 }
 
 // One face more.
+#[tactic(auto, unfolding(crate::specs::Shifts::noted))]
 fn note(m: Meeting, p: Push) -> Meeting
     requires { m.n < 18446744073709551615 }
     ensures { result ≡ noted m p }
@@ -74,6 +68,7 @@ fn note(m: Meeting, p: Push) -> Meeting
 }
 
 // A face joins the others where it meets the vertex.
+#[tactic(auto, unfolding(crate::specs::Shifts::noted_if))]
 pub fn note_if(meets: bool, m: Meeting, p: Push) -> Meeting
     requires { m.n < 18446744073709551615 }
     ensures { result ≡ noted_if meets m p }
@@ -84,6 +79,7 @@ pub fn note_if(meets: bool, m: Meeting, p: Push) -> Meeting
     m
 }
 
+#[tactic(auto, unfolding(crate::specs::Shifts::delta_of))]
 fn delta(a: Push, b: Push, c: Push, n: Point3) -> Point3
     ensures { result ≡ delta_of a b c n }
 {
@@ -99,6 +95,7 @@ fn delta(a: Push, b: Push, c: Push, n: Point3) -> Point3
     )
 }
 
+#[tactic(auto, unfolding(crate::specs::Shifts::residual))]
 fn residual(d: Point3, p: Push) -> Interval
     ensures { result ≡ residual d p }
 {
@@ -109,6 +106,7 @@ fn residual(d: Point3, p: Push) -> Interval
     )
 }
 
+#[tactic(auto, unfolding(crate::specs::Shifts::outside))]
 fn is_outside(t: Precision, r: Interval) -> bool
     ensures { result ≡ outside t r }
 {
@@ -122,22 +120,25 @@ fn misses(t: Precision, a: Push, b: Push, c: Push, d: Point3) -> bool
     is_outside(t, residual(d, a)) | (is_outside(t, residual(d, b)) | is_outside(t, residual(d, c)))
 }
 
-fn moved_unless(missed: bool, q: Point3) -> Shifted
-    ensures { shifted_to result ≡ unless missed 26 (ok q) }
+#[tactic(auto, unfolding(crate::specs::Shifts::moved_to))]
+fn moved_to(
+    t: Precision,
+    a: Push,
+    b: Push,
+    c: Push,
+    p: Point3,
+    q: Point3,
+) -> Result<Point3, Refusal>
+    ensures { result ≡ moved_to t a b c p q }
 {
-    if missed {
-        return Shifted::Refused(refusal::refuse(26));
+    if misses(t, a, b, c, space::minus(q, p)) {
+        return Err(refusal::refuse(26));
     }
-    Shifted::At(q)
-}
-
-fn moved_to(t: Precision, a: Push, b: Push, c: Push, p: Point3, q: Point3) -> Shifted
-    ensures { shifted_to result ≡ moved_to t a b c p q }
-{
-    moved_unless(misses(t, a, b, c, space::minus(q, p)), q)
+    Ok(q)
 }
 
 // The determinant of the three normals holds zero.
+#[tactic(auto, unfolding(crate::specs::Shifts::flat))]
 fn is_flat(a: Push, n: Point3) -> bool
     ensures { result ≡ flat a n }
 {
@@ -145,22 +146,31 @@ fn is_flat(a: Push, n: Point3) -> bool
     interval::holds_zero(interval::dot(space::coordinates(x), space::coordinates(n)))
 }
 
-fn moved_by(t: Precision, a: Push, b: Push, c: Push, p: Point3, n: Point3) -> Shifted
-    ensures { shifted_to result ≡ moved_by t a b c p n }
+#[tactic(auto, unfolding(crate::specs::Shifts::moved_by))]
+fn moved_by(
+    t: Precision,
+    a: Push,
+    b: Push,
+    c: Push,
+    p: Point3,
+    n: Point3,
+) -> Result<Point3, Refusal>
+    ensures { result ≡ moved_by t a b c p n }
 {
     if is_flat(a, n) {
-        return Shifted::Refused(refusal::refuse(25));
+        return Err(refusal::refuse(25));
     }
     moved_to(t, a, b, c, p, space::plus(p, delta(a, b, c, n)))
 }
 
 // The vertex p where the faces that meet it are pushed.
-pub fn moved(t: Precision, p: Point3, m: Meeting) -> Shifted
-    ensures { shifted_to result ≡ moved_at t p m }
+#[tactic(auto, unfolding(crate::specs::Shifts::moved_at))]
+pub fn moved(t: Precision, p: Point3, m: Meeting) -> Result<Point3, Refusal>
+    ensures { result ≡ moved_at t p m }
 {
     let n = m.n;
     if n != 3 {
-        return Shifted::Refused(refusal::refuse(24));
+        return Err(refusal::refuse(24));
     }
     let a = m.a;
     let b = m.b;
@@ -171,8 +181,9 @@ pub fn moved(t: Precision, p: Point3, m: Meeting) -> Shifted
 }
 
 // The plane of a face, pushed along its normal; its mark stays.
-pub fn moved_plane(t: Precision, w: Plane, d: f64) -> Planed
-    ensures { planed result ≡ moved_plane t w d }
+#[tactic(auto, unfolding(crate::specs::Shifts::moved_plane))]
+pub fn moved_plane(t: Precision, w: Plane, d: f64) -> Result<Plane, Refusal>
+    ensures { result ≡ moved_plane t w d }
 {
     let f = w.frame;
     let o = f.origin;

@@ -1,5 +1,5 @@
 -- On which side of a plane a point lies, by intervals: 7. Definitions only.
-use Rattle.std.specs.Prelude.{Bool, true, false, ◌&&◌, cond, Float}
+use Rattle.std.specs.Prelude.{Bool, true, false, ◌&&◌, cond, Float, Ok, Err}
 use Rattle.std.specs.Float.Ieee.{le, neg}
 use Rattle.refusal.specs.Outcome.{Outcome, then, refusal_of}
 use Rattle.interval.specs.declared.Interval.{Interval}
@@ -13,7 +13,7 @@ use Rattle.space.specs.declared.Precision.{Precision}
 use Rattle.space.specs.Vector.{sub_v, neg_v, dot_v, box_of}
 use Rattle.space.specs.Frames.{plane_of, with_mark}
 use Rattle.side.specs.declared.Side.{Side}
-use Rattle.side.specs.declared.Side.TheVariants.{Positive, Negative, Zero, Refused}
+use Rattle.side.specs.declared.Side.TheVariants.{Positive, Negative, Zero}
 
 -- (p - origin) dot normal
 unfoldable pub distance_of : Plane → Point3 → Interval
@@ -44,13 +44,13 @@ abbrev pub within : Interval → Float → Bool
 within d t = le (neg t) d.lo && le d.hi t
 
 -- 7: "side neither certified nor inside the tube"
-abbrev pub first_of : Bool → Bool → Bool → Side
-first_of p n z = cond p Positive (cond n Negative (cond z Zero (Refused (refusal_of 7))))
+abbrev pub first_of : Bool → Bool → Bool → Outcome Side
+first_of p n z = cond p (Ok Positive) (cond n (Ok Negative) (cond z (Ok Zero) (Err (refusal_of 7))))
 
-unfoldable pub classed : Interval → Float → Side
+unfoldable pub classed : Interval → Float → Outcome Side
 classed d t = first_of (is_positive (sign_of (sub_i d (point_i t)))) (is_negative (sign_of (add_i d (point_i t)))) (within d t)
 
-unfoldable pub side_of : Precision → Plane → Point3 → Side
+unfoldable pub side_of : Precision → Plane → Point3 → Outcome Side
 side_of t w p = classed (distance_of w p) t.local
 
 -- the plane of the same origin, with the normal turned round, the same hint and the same mark

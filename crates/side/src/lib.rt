@@ -2,19 +2,17 @@
 
 // On which side of a plane a point lies.
 ghost use Rattle.std.specs.Prelude.{◌≡◌};
-ghost use Rattle.space.specs.Frames.{planed};
 ghost use Rattle.side.specs.Sides.{along_i, distance_of, height_of, is_positive, is_negative, within, first_of, classed, side_of, opposite_of};
 
 use interval::{Interval, Sign};
 use refusal::Refusal;
-use space::{Plane, Planed, Point3, Precision};
+use space::{Plane, Point3, Precision};
 
 #[derive(Clone, Copy)]
 pub enum Side {
     Positive,
     Negative,
     Zero,
-    Refused(Refusal),
 }
 
 // The interval from o to x, times z.
@@ -78,22 +76,22 @@ fn is_within(d: Interval, local: f64) -> bool
 }
 
 // The first of the three that holds.
-fn first_of(positive: bool, negative: bool, zero: bool) -> Side
+fn first_of(positive: bool, negative: bool, zero: bool) -> Result<Side, Refusal>
     ensures { result ≡ first_of positive negative zero }
 {
     if positive {
-        return Side::Positive;
+        return Ok(Side::Positive);
     }
     if negative {
-        return Side::Negative;
+        return Ok(Side::Negative);
     }
     if zero {
-        return Side::Zero;
+        return Ok(Side::Zero);
     }
-    Side::Refused(refusal::refuse(7))
+    Err(refusal::refuse(7))
 }
 
-fn classify(d: Interval, local: f64) -> Side
+fn classify(d: Interval, local: f64) -> Result<Side, Refusal>
     ensures { result ≡ classed d local }
 {
     let tube = interval::point(local);
@@ -102,15 +100,15 @@ fn classify(d: Interval, local: f64) -> Side
     first_of(positive, negative, is_within(d, local))
 }
 
-pub fn side_of(plane: Plane, p: Point3, precision: Precision) -> Side
+pub fn side_of(plane: Plane, p: Point3, precision: Precision) -> Result<Side, Refusal>
     ensures { result ≡ side_of precision plane p }
 {
     classify(distance(plane, p), precision.local)
 }
 
 // The same plane seen from its other side; its mark stays.
-pub fn opposite(plane: Plane, precision: Precision) -> Planed
-    ensures { planed result ≡ opposite_of precision plane }
+pub fn opposite(plane: Plane, precision: Precision) -> Result<Plane, Refusal>
+    ensures { result ≡ opposite_of precision plane }
 {
     let frame = plane.frame;
     let made = space::plane_of(precision, frame.origin, space::negated(frame.z), frame.x);

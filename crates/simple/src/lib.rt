@@ -3,14 +3,14 @@
 // Whether the edges of an outline keep apart.
 ghost use Rattle.std.specs.Prelude.{◌≡◌, ◌+◌, ◌%◌, ◌<◌, ◌≤◌};
 ghost use Rattle.outline.specs.Project.{points_of};
-ghost use Rattle.simple.specs.Simple.{first_of, settled, opposite_of, touches, apart, met_by, edges_by, edges_of, next_of, pair_of, simple_from, simple_of};
+ghost use Rattle.simple.specs.Simple.{opposite_of, touches, apart, met_by, edges_by, edges_of, next_of, pair_of, simple_from, simple_of};
 
 use outline::Outline;
-use refusal::Verdict;
+use refusal::Refusal;
 use space::Precision;
 use turns::{Projected, Turn};
 
-fn opposite(a: Turn, b: Turn) -> bool
+fn opposite(a: Result<Turn, Refusal>, b: Result<Turn, Refusal>) -> bool
     ensures { result ≡ opposite_of a b }
 {
     (turns::is_positive(a) & turns::is_negative(b))
@@ -18,54 +18,36 @@ fn opposite(a: Turn, b: Turn) -> bool
 }
 
 // z lies on the line from x to y, between the two.
-fn touches(s: Turn, p: Precision, x: Projected, y: Projected, z: Projected) -> bool
+#[tactic(auto, unfolding(crate::specs::Simple::touches))]
+fn touches(s: Result<Turn, Refusal>, p: Precision, x: Projected, y: Projected, z: Projected) -> bool
     ensures { result ≡ touches s p x y z }
 {
     let across = turns::contains_range(p, x.x, y.x, z.x);
     turns::is_zero(s) & (across & turns::contains_range(p, x.y, y.y, z.y))
 }
 
-fn settled(s: Turn) -> Verdict
-    ensures { result ≡ settled s }
-{
-    match s {
-        Turn::Positive => Verdict::Fine,
-        Turn::Negative => Verdict::Fine,
-        Turn::Zero => Verdict::Fine,
-        Turn::Refused(r) => Verdict::Refused(r),
-    }
-}
-
-// The first refusal of two.
-fn first_of(v: Verdict, w: Verdict) -> Verdict
-    ensures { result ≡ first_of v w }
-{
-    match v {
-        Verdict::Fine => w,
-        Verdict::Refused(r) => Verdict::Refused(r),
-    }
-}
-
-fn apart(met: bool) -> Verdict
+#[tactic(auto, unfolding(crate::specs::Simple::apart))]
+fn apart(met: bool) -> Result<(), Refusal>
     ensures { result ≡ apart met }
 {
     if met {
-        return Verdict::Refused(refusal::refuse(30));
+        return Err(refusal::refuse(30));
     }
-    Verdict::Fine
+    Ok(())
 }
 
 // The two edges cross, or an end of one lies on the other.
+#[tactic(auto, unfolding(crate::specs::Simple::met_by))]
 fn meet(
     p: Precision,
     a: Projected,
     b: Projected,
     c: Projected,
     d: Projected,
-    s0: Turn,
-    s1: Turn,
-    s2: Turn,
-    s3: Turn,
+    s0: Result<Turn, Refusal>,
+    s1: Result<Turn, Refusal>,
+    s2: Result<Turn, Refusal>,
+    s3: Result<Turn, Refusal>,
 ) -> bool
     ensures { result ≡ met_by p a b c d s0 s1 s2 s3 }
 {
@@ -76,20 +58,32 @@ fn meet(
 }
 
 // The first turn that is unresolved decides, then whether the edges meet.
-fn edges_by(s0: Turn, s1: Turn, s2: Turn, s3: Turn, met: bool) -> Verdict
+#[tactic(auto, unfolding(crate::specs::Simple::edges_by, crate::specs::Simple::first_of, crate::specs::Simple::settled))]
+fn edges_by(
+    s0: Result<Turn, Refusal>,
+    s1: Result<Turn, Refusal>,
+    s2: Result<Turn, Refusal>,
+    s3: Result<Turn, Refusal>,
+    met: bool,
+) -> Result<(), Refusal>
     ensures { result ≡ edges_by s0 s1 s2 s3 met }
 {
-    first_of(
-        settled(s0),
-        first_of(
-            settled(s1),
-            first_of(settled(s2), first_of(settled(s3), apart(met))),
-        ),
-    )
+    s0?;
+    s1?;
+    s2?;
+    s3?;
+    apart(met)
 }
 
 // The edges from a to b and from c to d.
-fn edges_apart(p: Precision, a: Projected, b: Projected, c: Projected, d: Projected) -> Verdict
+#[tactic(auto, unfolding(crate::specs::Simple::edges_of, crate::specs::Simple::edges_with))]
+fn edges_apart(
+    p: Precision,
+    a: Projected,
+    b: Projected,
+    c: Projected,
+    d: Projected,
+) -> Result<(), Refusal>
     ensures { result ≡ edges_of p a b c d }
 {
     let s0 = turns::orientation(p, a, b, c);
@@ -115,17 +109,25 @@ fn is_next(n: usize, i: usize, j: usize) -> bool
     (j == i + 1) | ((i == 0) & (j == n - 1))
 }
 
-fn pair(next: bool, p: Precision, a: Projected, b: Projected, c: Projected, d: Projected) -> Verdict
+#[tactic(auto, unfolding(crate::specs::Simple::pair_of))]
+fn pair(
+    next: bool,
+    p: Precision,
+    a: Projected,
+    b: Projected,
+    c: Projected,
+    d: Projected,
+) -> Result<(), Refusal>
     ensures { result ≡ pair_of next p a b c d }
 {
     if next {
-        return Verdict::Fine;
+        return Ok(());
     }
     edges_apart(p, a, b, c, d)
 }
 
 // The edge at place i against each later one.
-fn simple_from(p: Precision, o: Outline, i: usize) -> Verdict
+fn simple_from(p: Precision, o: Outline, i: usize) -> Result<(), Refusal>
     requires { (i < o.n) × (o.n ≤ 128) }
     ensures { result ≡ simple_from p (points_of o) o.n i }
 {
@@ -133,37 +135,21 @@ fn simple_from(p: Precision, o: Outline, i: usize) -> Verdict
     let k = after(n, i);
     let a = o.at[i];
     let b = o.at[k];
-    let mut j = i + 1;
-    while j < n {
+    for j in i + 1..n {
         let l = after(n, j);
-        let v = pair(is_next(n, i, j), p, a, b, o.at[j], o.at[l]);
-        match v {
-            Verdict::Fine => {}
-            Verdict::Refused(r) => {
-                return Verdict::Refused(r);
-            }
-        }
-        j += 1;
+        pair(is_next(n, i, j), p, a, b, o.at[j], o.at[l])?;
     }
-    Verdict::Fine
+    Ok(())
 }
 
 // No two edges that are not neighbours cross or touch: 33, 30.
-pub fn simple(p: Precision, o: Outline) -> Verdict
+pub fn simple(p: Precision, o: Outline) -> Result<(), Refusal>
     requires { o.n ≤ 128 }
     ensures { result ≡ simple_of p (points_of o) }
 {
     let n = o.n;
-    let mut i = 0;
-    while i < n {
-        let v = simple_from(p, o, i);
-        match v {
-            Verdict::Fine => {}
-            Verdict::Refused(r) => {
-                return Verdict::Refused(r);
-            }
-        }
-        i += 1;
+    for i in 0..n {
+        simple_from(p, o, i)?;
     }
-    Verdict::Fine
+    Ok(())
 }

@@ -1,42 +1,21 @@
 -- Laws of the storing of faces with planes, in the words of the code.
-use Rattle.std.specs.Prelude.{◌≡◌, refl, List, [], ◌∷◌, ◌++◌, map, ℕ, ◌+◌, ◌*◌, ◌≤◌, ◌<◌, length, drop, get_or, Float}
+use Rattle.std.specs.Prelude.{◌≡◌, refl, List, [], ◌∷◌, ◌++◌, map, ℕ, ◌+◌, ◌*◌, ◌≤◌, ◌<◌, length, drop, get_or, Float, Ok, Err}
 use Rattle.std.proofs.Common.{sym, ap, ◌∙◌, append-nil, append_assoc, arith, length-append, length-take, length-drop}
 use Rattle.std.proofs.lemmas.List.{length-map}
 use Rattle.std.proofs.lemmas.List.Edits.{sets}
 use Rattle.std.proofs.Math.Seq.{length-sets}
 use Rattle.refusal.specs.declared.Refusal.{Refusal}
-use Rattle.refusal.specs.Outcome.{ok, refused}
 use Rattle.space.specs.declared.Point3.{Point3}
 use Rattle.space.specs.declared.Plane.{Plane}
 use Rattle.space.specs.declared.Precision.{Precision}
 use Rattle.space.specs.Shapes.{Face}
-use Rattle.polygon.specs.Memory.{floats, floats_of}
 use Rattle.room.specs.Rooms.{counts_at, face_floats, cell_floats}
-use Rattle.room.specs.Laws.{sets_point, next_count, counts_done, floats_more, corners_snoc, corners_none}
+use Rattle.room.specs.Laws.{floats_more, corners_snoc, corners_none}
 use Rattle.solids.specs.Frames.{point_of, plane_for, faces_at, Placing}
 use Rattle.solids.specs.Faces.{along_start, along_next, along_room, along_face, along_end}
 use Rattle.solid_check.specs.Check.{framed}
 use Rattle.solid_check.proofs.Laws.{framed_go, framed_stop}
-use Rattle.solid_check.specs.Storing.{Dotting, Putting}
-
-pub dotting_start : (ps : List Point3) (l : List ℕ) (at n o : ℕ) (s : List Float) → Dotting ps l at n o s s 0 o
-dotting_start ps l at n o s = record { upto = omega arith; place = omega arith; size = refl; rest = refl }
-
-module _ {ps : List Point3} {l : List ℕ} {at n o : ℕ} {s₀ s : List Float} {i p : ℕ} (I : Dotting ps l at n o s₀ s i p) where
-  pub dotting_next : (q : Point3) {s' : List Float} → i < n → at + n ≤ length l → q ≡ point_of ps (get_or l (at + i) 0) → s' ≡ sets s p (floats q) → Dotting ps l at n o s₀ s' (i + 1) (p + 3)
-  dotting_next q {s'} h k e g = record {
-    upto = omega arith;
-    place = omega (arith, I.place);
-    size = ap length g ∙ length-sets s p (floats q) ∙ I.size;
-    rest =
-        ap (λ z. sets z (p + 3) (floats_of (map (point_of ps) (drop (i + 1) (counts_at l at n))))) g
-        ∙ sym (sets_point s p q (map (point_of ps) (drop (i + 1) (counts_at l at n))))
-        ∙ ap (λ z. sets s p (floats_of (z ∷ map (point_of ps) (drop (i + 1) (counts_at l at n))))) e
-        ∙ ap (λ z. sets s p (floats_of (map (point_of ps) z))) (sym (next_count l at n i h k)) ∙ I.rest;
-  }
-
-  pub dotting_end : n ≤ i → s ≡ sets s₀ o (floats_of (map (point_of ps) (counts_at l at n)))
-  dotting_end h = ap (λ z. sets s p (floats_of (map (point_of ps) z))) (sym (counts_done l at n i h)) ∙ I.rest
+use Rattle.solid_check.specs.Storing.{Putting}
 
 pub putting_start : (t : Precision) (ps : List Point3) (l counts : List ℕ) (n : ℕ) (s : List Float) → Placing (counts_at counts 0 n) 0 (length l) → Putting t ps l counts n s s 0 0 0
 unfolding cell_floats
@@ -51,7 +30,7 @@ module _ {t : Precision} {ps : List Point3} {l counts : List ℕ} {n : ℕ} {s�
       let r = along_room I.along room h in
       (r, omega (arith, r, I.place, putting_long))
 
-  pub putting_go : (w : Plane) {s' : List Float} → j < n → plane_for t ps (counts_at l at (get_or counts j 0)) ≡ ok w →
+  pub putting_go : (w : Plane) {s' : List Float} → j < n → plane_for t ps (counts_at l at (get_or counts j 0)) ≡ Ok w →
       s' ≡ sets s o (face_floats (record { plane = w; points = map (point_of ps) (counts_at l at (get_or counts j 0)) })) →
       Putting t ps l counts n s₀ s' (at + get_or counts j 0) (o + (13 + 3 * get_or counts j 0)) (j + 1)
   putting_go w {s'} h e g =
@@ -75,7 +54,7 @@ module _ {t : Precision} {ps : List Point3} {l counts : List ℕ} {n : ℕ} {s�
   last : framed t ps (faces_at l at (drop j (counts_at counts 0 n))) ≡ [] → s ≡ sets s₀ 0 (cell_floats (framed t ps (faces_at l 0 (counts_at counts 0 n))))
   last e = I.is ∙ ap (λ z. sets s₀ 0 (cell_floats z)) (sym (append-nil I.done) ∙ ap (λ z. I.done ++ z) (sym e) ∙ I.rest)
 
-  pub putting_stop : (r : Refusal) → j < n → plane_for t ps (counts_at l at (get_or counts j 0)) ≡ refused r → s ≡ sets s₀ 0 (cell_floats (framed t ps (faces_at l 0 (counts_at counts 0 n))))
+  pub putting_stop : (r : Refusal) → j < n → plane_for t ps (counts_at l at (get_or counts j 0)) ≡ Err r → s ≡ sets s₀ 0 (cell_floats (framed t ps (faces_at l 0 (counts_at counts 0 n))))
   putting_stop r h e = last (ap (framed t ps) (along_face I.along room h) ∙ framed_stop t ps (counts_at l at (get_or counts j 0)) (faces_at l (at + get_or counts j 0) (drop (j + 1) (counts_at counts 0 n))) r e)
 
   pub putting_end : n ≤ j → s ≡ sets s₀ 0 (cell_floats (framed t ps (faces_at l 0 (counts_at counts 0 n))))

@@ -1,9 +1,7 @@
 -- The check of a solid, and the checked solid as faces with planes. Definitions only.
-use Rattle.std.specs.Prelude.{ℕ, Bool, true, false, not, ◌&&◌, List, [], ◌∷◌, map, length, Float}
+use Rattle.std.specs.Prelude.{ℕ, Bool, true, false, not, ◌&&◌, List, [], ◌∷◌, map, length, Float, Ok, Err}
 use Rattle.std.proofs.lemmas.List.Edits.{sets}
-use Rattle.refusal.specs.declared.Verdict.{Verdict}
-use Rattle.refusal.specs.declared.Verdict.TheVariants.{Fine, Refused}
-use Rattle.refusal.specs.Outcome.{Outcome, ok, refused, then, unless, each}
+use Rattle.refusal.specs.Outcome.{Outcome, then, unless, each}
 use Rattle.space.specs.declared.Point3.{Point3}
 use Rattle.space.specs.declared.Precision.{Precision}
 use Rattle.space.specs.Shapes.{Face, Cell, Solid}
@@ -19,15 +17,15 @@ solid_at points m places counts n = record { points = points_at points 0 m; face
 
 -- the face of these corners, with the plane of the first three
 unfoldable pub face_of : Precision → List Point3 → List ℕ → Outcome Face
-face_of t ps f = then (plane_for t ps f) (λ w. ok (record { plane = w; points = map (point_of ps) f }))
+face_of t ps f = then (plane_for t ps f) (λ w. Ok (record { plane = w; points = map (point_of ps) f }))
 
 unfoldable pub cell_of : Precision → Solid → Outcome Cell
 cell_of t s = each (face_of t s.points) [] s.faces
 
 -- an answer where the verdict before it is fine
-unfoldable pub after : {A : Type 0} → Verdict → Outcome A → Outcome A
-after Fine o = o
-after (Refused r) o = refused r
+unfoldable pub after : {A : Type 0} → Outcome Unit → Outcome A → Outcome A
+after (Ok tt) o = o
+after (Err r) o = Err r
 
 -- "Checked in this order: numbers (2); counts (3); … (4); frames (5); pairs of points (4, 6); for each face, each point (7, 4)", then the face's
 -- turns (33, 4; request 2/13); counts and turns only of what is given
@@ -47,13 +45,13 @@ check_built t s = check false t s
 
 -- a slice, once a cell is stored at its front; a refusal leaves it as it is
 unfoldable pub stored : Outcome Cell → List Float → List Float
-stored (ok c) l = sets l 0 (cell_floats c)
-stored (refused r) l = l
+stored (Ok c) l = sets l 0 (cell_floats c)
+stored (Err r) l = l
 
 -- the faces up to the first that has no plane; a checked solid has one for each
 unfoldable pub kept : Outcome Face → Cell → Cell
-kept (ok f) c = f ∷ c
-kept (refused r) c = []
+kept (Ok f) c = f ∷ c
+kept (Err r) c = []
 
 unfoldable pub framed : Precision → List Point3 → List (List ℕ) → Cell
 framed t ps [] = []

@@ -9,8 +9,8 @@ ghost use Rattle.room.specs.Rooms.{plane_size, counts_at, face_floats, cell_floa
 ghost use Rattle.solids.specs.Frames.{point_of, faces_at, Placing};
 ghost use Rattle.solid_check.specs.Check.{solid_at, check, stored, framed};
 
-use refusal::Verdict;
-use space::{Plane, Planed, Precision};
+use refusal::Refusal;
+use space::{Plane, Precision};
 
 // The solid of m points and n faces is checked in 01's order, with counts and turns where it is given. The other slices are work memory.
 pub fn check(
@@ -28,48 +28,24 @@ pub fn check(
     work: &mut [u64],
     nodes: &mut [u64],
     cuts: &mut [u64],
-) -> Verdict
+) -> Result<(), Refusal>
     requires m_in_bounds { (3 * m ≤ length points.now) × (n ≤ length counts.now) × Placing (counts_at counts.now 0 n) 0 (length places.now) }
     requires places_in_bounds { (2 * length places.now ≤ length ends.old) × (2 * length places.now ≤ length next.old) × (length places.now ≤ length nodes.old) }
     requires n_in_bounds { (n ≤ length head.old) × (n ≤ length seen.old) × (n ≤ length work.old) × (n ≤ length nodes.old) × (n < length cuts.old) }
     ensures { result ≡ verdict_of (check given t (solid_at points.now m places.now counts.now n)) }
 {
     if !solids::all_fair(points, m) {
-        return Verdict::Refused(refusal::refuse(2));
+        return Err(refusal::refuse(2));
     }
     if given & !solids::is_counted(m, counts, n) {
-        return Verdict::Refused(refusal::refuse(3));
+        return Err(refusal::refuse(3));
     }
     if !topology::is_sound(
         m, places, counts, n, ends, head, next, seen, work, nodes, cuts,
     ) {
-        return Verdict::Refused(refusal::refuse(4));
+        return Err(refusal::refuse(4));
     }
     solids::shape(given, t, points, m, places, counts, n)
-}
-
-// The points of a face's n corners, whose places stand from a place on, go to s from o on.
-fn put_corners(
-    points: &[f64],
-    m: usize,
-    places: &[u64],
-    at: usize,
-    n: usize,
-    s: &mut [f64],
-    o: usize,
-)
-    requires { (3 * m ≤ length points.now) × (at + n ≤ length places.now) × (o + 3 * n ≤ length s.old) }
-    ensures { s.new ≡ sets s.old o (floats_of (map (point_of (points_at points.now 0 m)) (counts_at places.now at n))) }
-{
-    let mut i = 0;
-    let mut p = o;
-    while i < n {
-        let x = places[at + i] as usize;
-        let q = solids::point_of(points, m, x);
-        polygon::put_point(s, p, q);
-        i += 1;
-        p += 3;
-    }
 }
 
 // A face of plane w.
@@ -87,7 +63,7 @@ fn put_face(
     ensures { s.new ≡ sets s.old o (face_floats (record { plane = w; points = map (point_of (points_at points.now 0 m)) (counts_at places.now at n) })) }
 {
     room::put_plane(s, o, w);
-    put_corners(points, m, places, at, n, s, o + room::PLANE);
+    solids::put_corners(points, m, places, at, n, s, o + room::PLANE);
 }
 
 // The n faces, up to the first that has no plane.
@@ -105,17 +81,14 @@ pub fn put_faces(
 {
     let mut at = 0;
     let mut o = 0;
-    let mut j = 0;
-    while j < n {
+    for j in 0..n {
         let c = counts[j] as usize;
-        let made = solids::plane_for(t, points, m, places, at, c);
-        let Planed::Made(w) = made else {
+        let Ok(w) = solids::plane_for(t, points, m, places, at, c) else {
             return;
         };
         put_face(w, points, m, places, at, c, s, o);
         at += c;
         o += room::PLANE + 3 * c;
-        j += 1;
     }
 }
 
@@ -136,7 +109,7 @@ pub fn checked_cell(
     work: &mut [u64],
     nodes: &mut [u64],
     cuts: &mut [u64],
-) -> Verdict
+) -> Result<(), Refusal>
     requires m_in_bounds { (3 * m ≤ length points.now) × (n ≤ length counts.now) × Placing (counts_at counts.now 0 n) 0 (length places.now) }
     requires places_in_bounds { (2 * length places.now ≤ length ends.old) × (2 * length places.now ≤ length next.old) × (length places.now ≤ length nodes.old) }
     requires n_in_bounds { (n ≤ length head.old) × (n ≤ length seen.old) × (n ≤ length work.old) × (n ≤ length nodes.old) × (n < length cuts.old) }
@@ -144,12 +117,9 @@ pub fn checked_cell(
     ensures value { result ≡ verdict_of (check given t (solid_at points.now m places.now counts.now n)) }
     ensures s_after { s.new ≡ stored (check given t (solid_at points.now m places.now counts.now n)) s.old }
 {
-    let v = check(
+    check(
         given, t, points, m, places, counts, n, ends, head, next, seen, work, nodes, cuts,
-    );
-    let Verdict::Fine = v else {
-        return v;
-    };
+    )?;
     put_faces(t, points, m, places, counts, n, s);
-    Verdict::Fine
+    Ok(())
 }

@@ -1,19 +1,16 @@
 -- What the slices mean, once a cell's bytes are unpacked into them.
-use Rattle.std.specs.Prelude.{◌≡◌, refl, Bool, true, false, ◌&&◌, cond, List, map, ℕ, ◌*◌, ◌/◌, ◌≤◌, ◌<◌, length, drop, leb, Float}
+use Rattle.std.specs.Prelude.{◌≡◌, refl, Bool, true, false, ◌&&◌, cond, List, map, ℕ, ◌*◌, ◌/◌, ◌≤◌, ◌<◌, length, drop, leb, Float, Ok, Err}
 use Rattle.std.proofs.Common.{sym, ap, ◌∙◌, arith, leb-true}
 use Rattle.std.proofs.lemmas.List.Edits.{sets}
 use Rattle.refusal.specs.declared.Refusal.{Refusal}
-use Rattle.refusal.specs.declared.Verdict.{Verdict}
-use Rattle.refusal.specs.Outcome.{Outcome, ok, refused, verdict_of, number_of}
+use Rattle.refusal.specs.Outcome.{Outcome, verdict_of, number_of}
 use Rattle.refusal.specs.Laws.{stop, go}
 use Rattle.refusal.specs.Tests.{and_true}
 use Rattle.space.specs.Shapes.{Cell}
 use Rattle.room.specs.Rooms.{counts_at}
 use Rattle.job.specs.declared.CellLayout.{CellLayout}
-use Rattle.job.specs.declared.CellLaid.{CellLaid}
-use Rattle.job.specs.declared.CellLaid.TheVariants as C
 use Rattle.job.specs.Records.{faces_of}
-use Rattle.job.specs.Read.{cell_laid, cell_layout, solid_at, cell_at, read_cell}
+use Rattle.job.specs.Read.{cell_layout, solid_at, cell_at, read_cell}
 use Rattle.pack.specs.Flat.{flat, joined, points_from, faces_from}
 use Rattle.solids.specs.Frames.{Placing}
 use Rattle.solid_check.specs.Check.{check}
@@ -27,16 +24,16 @@ use Rattle.solid_leaves.specs.Cells.{check_bytes, roomy, cell_number}
 
 pub number_of_lem : (o : Outcome Cell) → number_by (verdict_of o) ≡ number_of o
 unfolding number_by verdict_of number_of
-number_of_lem (ok c) = refl
-number_of_lem (refused r) = refl
+number_of_lem (Ok c) = refl
+number_of_lem (Err r) = refl
 
-pub read_not : (given : Bool) (l : List ℕ) (r : Refusal) → cell_layout l ≡ refused r → r.number ≡ number_of (check_bytes given l)
+pub read_not : (given : Bool) (l : List ℕ) (r : Refusal) → cell_layout l ≡ Err r → r.number ≡ number_of (check_bytes given l)
 unfolding check_bytes read_cell number_of
-read_not given l r e = sym (ap number_of (stop (read_cell l) (λ j. check given j.precision j.solid) r (stop (cell_layout l) (λ y. ok (cell_at l y)) r e)))
+read_not given l r e = sym (ap number_of (stop (read_cell l) (λ j. check given j.precision j.solid) r (stop (cell_layout l) (λ y. Ok (cell_at l y)) r e)))
 
-pub read_made : (given : Bool) (l : List ℕ) (y : CellLayout) → cell_layout l ≡ ok y → check given y.precision (solid_at l y.solid) ≡ check_bytes given l
+pub read_made : (given : Bool) (l : List ℕ) (y : CellLayout) → cell_layout l ≡ Ok y → check given y.precision (solid_at l y.solid) ≡ check_bytes given l
 unfolding check_bytes read_cell cell_at
-read_made given l y e = sym (go (read_cell l) (λ j. check given j.precision j.solid) (cell_at l y) (go (cell_layout l) (λ z. ok (cell_at l z)) y e))
+read_made given l y e = sym (go (read_cell l) (λ j. check given j.precision j.solid) (cell_at l y) (go (cell_layout l) (λ z. Ok (cell_at l z)) y e))
 
 -- ---- the work memory
 
@@ -81,7 +78,7 @@ roomy_is points counts places ends head next seen work nodes cuts q =
 
 -- ---- a cell that was read, in work memory that suffices
 
-module _ (l : List ℕ) (y : CellLayout) (e : cell_layout l ≡ ok y) {sn cn pn en hn xn on wn dn un : ℕ} (R : Roomy sn cn pn en hn xn on wn dn un) where
+module _ (l : List ℕ) (y : CellLayout) (e : cell_layout l ≡ Ok y) {sn cn pn en hn xn on wn dn un : ℕ} (R : Roomy sn cn pn en hn xn on wn dn un) where
   pub laid_room : (3 * y.solid.points ≤ sn) × (y.solid.faces ≤ cn) × (y.solid.corners ≤ pn)
   laid_room =
       let P = laid_placed l y e in
@@ -101,12 +98,12 @@ module _ (l : List ℕ) (y : CellLayout) (e : cell_layout l ≡ ok y) {sn cn pn 
       (omega (arith, k, R.g), omega (arith, k, R.h), omega (arith, k, R.i), omega (arith, k, R.j), omega (arith, k, R.k))
 
 -- the same, once the bytes are unpacked
-module _ (l : List ℕ) (y : CellLayout) (e : cell_layout l ≡ ok y) (s s' : List Float) (cs cs' ps ps' : List ℕ) (s_r : 3 * y.solid.points ≤ length s) (c_r : y.solid.faces ≤ length cs) (p_r : y.solid.corners ≤ length ps)
+module _ (l : List ℕ) (y : CellLayout) (e : cell_layout l ≡ Ok y) (s s' : List Float) (cs cs' ps ps' : List ℕ) (s_r : 3 * y.solid.points ≤ length s) (c_r : y.solid.faces ≤ length cs) (p_r : y.solid.corners ≤ length ps)
     (s_e : s' ≡ sets s 0 (flat (points_from l y.solid.start y.solid.points))) (c_e : cs' ≡ sets cs 0 (map length (faces_from l y.solid.middle))) (p_e : ps' ≡ sets ps 0 (joined (faces_from l y.solid.middle))) where
   pub laid_placing : Placing (counts_at cs' 0 y.solid.faces) 0 (length ps')
   laid_placing = rw (c_e, p_e) (placing_mean l 17 y.solid (laid_placed l y e).0 s cs ps s_r c_r p_r)
 
-  pub laid_number : (given : Bool) (v : Verdict) (r : ℕ) → r ≡ number_by v → v ≡ verdict_of (check given y.precision (K.solid_at s' y.solid.points ps' cs' y.solid.faces)) →
+  pub laid_number : (given : Bool) (v : Outcome Unit) (r : ℕ) → r ≡ number_by v → v ≡ verdict_of (check given y.precision (K.solid_at s' y.solid.points ps' cs' y.solid.faces)) →
       r ≡ number_of (check given y.precision (solid_at l y.solid))
   laid_number given v r h g =
       let q : K.solid_at s' y.solid.points ps' cs' y.solid.faces ≡ solid_at l y.solid = rw (s_e, c_e, p_e) (solid_mean l 17 y.solid (laid_placed l y e).0 s cs ps s_r c_r p_r) in
@@ -118,14 +115,13 @@ pub cell_small : (room given : Bool) (l : List ℕ) → room ≡ false → 12 �
 unfolding cell_number
 cell_small room given l e = sym (ap (λ b. cond b (number_of (check_bytes given l)) 12) e)
 
-pub cell_refused : (room given : Bool) (l : List ℕ) (c : CellLaid) (r : Refusal) → room ≡ true → cell_laid c ≡ cell_layout l → c ≡ C.Refused r → r.number ≡ cell_number room given l
-unfolding cell_number cell_laid
-cell_refused room given l c r e h g = read_not given l r (sym h ∙ ap cell_laid g) ∙ sym (ap (λ b. cond b (number_of (check_bytes given l)) 12) e)
+pub cell_refused : (room given : Bool) (l : List ℕ) (c : Outcome CellLayout) (r : Refusal) → room ≡ true → c ≡ cell_layout l → c ≡ Err r → r.number ≡ cell_number room given l
+unfolding cell_number
+cell_refused room given l c r e h g = read_not given l r (sym h ∙ g) ∙ sym (ap (λ b. cond b (number_of (check_bytes given l)) 12) e)
 
-pub cell_layout_lem : (l : List ℕ) (c : CellLaid) (y : CellLayout) → cell_laid c ≡ cell_layout l → c ≡ C.Made y → cell_layout l ≡ ok y
-unfolding cell_laid
-cell_layout_lem l c y h g = sym h ∙ ap cell_laid g
+pub cell_layout_lem : (l : List ℕ) (c : Outcome CellLayout) (y : CellLayout) → c ≡ cell_layout l → c ≡ Ok y → cell_layout l ≡ Ok y
+cell_layout_lem l c y h g = sym h ∙ g
 
-pub cell_checked : (room given : Bool) (l : List ℕ) (y : CellLayout) (r : ℕ) → room ≡ true → cell_layout l ≡ ok y → r ≡ number_of (check given y.precision (solid_at l y.solid)) → r ≡ cell_number room given l
+pub cell_checked : (room given : Bool) (l : List ℕ) (y : CellLayout) (r : ℕ) → room ≡ true → cell_layout l ≡ Ok y → r ≡ number_of (check given y.precision (solid_at l y.solid)) → r ≡ cell_number room given l
 unfolding cell_number
 cell_checked room given l y r e h g = g ∙ ap number_of (read_made given l y h) ∙ sym (ap (λ b. cond b (number_of (check_bytes given l)) 12) e)

@@ -1,14 +1,14 @@
 #![tactic(auto)]
 
 // The check of a cell's bytes, for tests that call it from outside.
-ghost use Rattle.std.specs.Prelude.{◌≡◌, ◌≤◌, length, eqb};
-ghost use Rattle.refusal.specs.Outcome.{ok, number_of};
+ghost use Rattle.std.specs.Prelude.{◌≡◌, ◌≤◌, length, eqb, Ok};
+ghost use Rattle.refusal.specs.Outcome.{number_of};
 ghost use Rattle.job.specs.Read.{cell_layout, solid_at};
 ghost use Rattle.solid_check.specs.Check.{check};
 ghost use Rattle.solid_leaves.specs.Cells.{roomy, cell_number};
 ghost use Rattle.solid_leaves.specs.Unpacked.{Roomy};
 
-use job::{CellLaid, CellLayout};
+use job::CellLayout;
 
 fn is_roomy(
     points: usize,
@@ -48,7 +48,7 @@ fn check_laid(
     nodes: &mut [u64],
     cuts: &mut [u64],
 ) -> u64
-    requires { (cell_layout job.now ≡ ok y) × Roomy (length points.old) (length counts.old) (length places.old) (length ends.old) (length head.old) (length next.old) (length seen.old) (length work.old) (length nodes.old) (length cuts.old) }
+    requires { (cell_layout job.now ≡ Ok y) × Roomy (length points.old) (length counts.old) (length places.old) (length ends.old) (length head.old) (length next.old) (length seen.old) (length work.old) (length nodes.old) (length cuts.old) }
     ensures { result ≡ number_of (check given y.precision (solid_at job.now y.solid)) }
 {
     let t = y.precision;
@@ -95,9 +95,8 @@ pub extern "C" fn leaf_check_cell(
     ) {
         return 12;
     }
-    let laid = job::read_cell(job);
-    match laid {
-        CellLaid::Made(y) => check_laid(
+    match job::read_cell(job) {
+        Ok(y) => check_laid(
             job,
             y,
             given == 1,
@@ -112,6 +111,6 @@ pub extern "C" fn leaf_check_cell(
             nodes,
             cuts,
         ),
-        CellLaid::Refused(r) => r.number,
+        Err(r) => r.number,
     }
 }

@@ -1,34 +1,27 @@
 -- What the mesh's call hands back, in the words of the code.
-use Rattle.std.specs.Prelude.{◌≡◌, Bool, true, false, not, List, [], ◌∷◌, ◌++◌, map, ℕ, ◌+◌, ◌-◌, ◌*◌, ◌/◌, ◌≤◌, ◌<◌, take, get_or, ltb, Float}
+use Rattle.std.specs.Prelude.{◌≡◌, Bool, true, false, not, List, [], ◌∷◌, ◌++◌, ℕ, ◌+◌, ◌*◌, ◌/◌, ◌≤◌, ◌<◌, take, get_or, Float, Ok, Err}
 use Rattle.std.proofs.Math.Path.{refl, ap, subst}
-use Rattle.std.proofs.Common.{sym, ◌∙◌, append_assoc, append-nil, arith, add-zero, length-append, length-take, drop_of_length-le, take_at, length-take-le, lt-ltb, ltb-false}
+use Rattle.std.proofs.Common.{sym, ◌∙◌, append_assoc, append-nil, arith, length-append, length-take, drop_of_length-le, take_at, length-take-le, lt-ltb, ltb-false}
 use Rattle.std.proofs.Math.ListN.{length}
 use Rattle.std.proofs.lemmas.List.Edits.{sets, sets-eq}
 use Rattle.std.proofs.Math.Seq.{length-sets}
 use Rattle.refusal.specs.declared.Refusal.{Refusal}
-use Rattle.refusal.specs.declared.Verdict.{Verdict}
-use Rattle.refusal.specs.declared.Verdict.TheVariants.{Fine, Refused}
-use Rattle.refusal.specs.Outcome.{Outcome, ok, refused, refusal_of, then, unless, heard}
+use Rattle.refusal.specs.Outcome.{Outcome, refusal_of, then, unless}
 use Rattle.lists.specs.Laws.{next, done}
 use Rattle.space.specs.declared.Point3.{Point3}
-use Rattle.space.specs.declared.Plane.{Plane}
 use Rattle.space.specs.declared.Precision.{Precision}
 use Rattle.space.specs.Shapes.{Face}
 use Rattle.polygon.specs.Memory.{floats_of, points_at}
 use Rattle.room.specs.Laws.{points_stored, length_floats_of}
 use Rattle.words.specs.Little.{digits}
 use Rattle.job.specs.declared.FacetLayout.{FacetLayout}
-use Rattle.job.specs.declared.FacetLaid.{FacetLaid}
-use Rattle.job.specs.declared.FacetLaid.TheVariants as F
-use Rattle.job.specs.Bytes.{Facet}
-use Rattle.job.specs.Read.{facet_laid, facet_layout, facet_at, read_facet}
+use Rattle.job.specs.Read.{facet_layout, facet_at, read_facet}
 use Rattle.pack.specs.Flat.{flat, coordinates, points_from}
 use Rattle.pack.specs.Laws.{length_from}
 use Rattle.writer.specs.Rows.{row, Rowing, rowing_start, rowing_turn, rowing_end, length_row}
 use Rattle.answer.specs.Laws.{then_sets, length_count}
 use Rattle.ended.specs.Ends.{told_of, written}
 use Rattle.ears.specs.declared.Triangle.{Triangle}
-use Rattle.mesh.specs.declared.Meshed.{Meshed}
 use Rattle.mesh.specs.declared.Triples.{Triples}
 use Rattle.mesh.specs.Mesh.{mesh_of, mesh_on, fair_facet, facet, triples, meshed, blank}
 use Rattle.mesh.specs.Theorems.{facet_mesh}
@@ -74,20 +67,25 @@ length_triples t h = omega (arith, length_row triangle_answer 12 length_triangle
 -- ---- what is handed back
 
 -- the outcome that the code's answer tells
-unfoldable pub drawing : Meshed → Outcome (List ℕ)
-drawing m = heard m.verdict (row triangle_answer (triangles_in m.triples))
+unfoldable pub drawing : Outcome Triples → Outcome (List ℕ)
+drawing m = then m (λ t. Ok (row triangle_answer (triangles_in t)))
 
-pub drawn_not : (o : Outcome (List ℕ)) (r : ℕ) (e : Refusal) (s : List ℕ) → o ≡ refused e → r ≡ e.number → Drawn o r s s
+-- there are at most 126 triangles, and room for them
+abbrev pub Few : Outcome Triples → ℕ → Type 0
+Few (Ok t) size = (t.n ≤ 126) × (12 * t.n ≤ size)
+Few (Err r) size = Unit {0}
+
+pub drawn_not : (o : Outcome (List ℕ)) (r : ℕ) (e : Refusal) (s : List ℕ) → o ≡ Err e → r ≡ e.number → Drawn o r s s
 unfolding told_of written
 drawn_not o r e s p q = rw p (record { number = q; bytes = refl })
 
-pub refused_drawn : (m : Meshed) (e : Refusal) (r : ℕ) (s : List ℕ) → m.verdict ≡ Refused e → r ≡ e.number → Drawn (drawing m) r s s
-unfolding drawing heard
-refused_drawn m e r s p q = drawn_not (drawing m) r e s (ap (λ v. heard v (row triangle_answer (triangles_in m.triples))) p) q
+pub refused_drawn : (m : Outcome Triples) (e : Refusal) (r : ℕ) (s : List ℕ) → m ≡ Err e → r ≡ e.number → Drawn (drawing m) r s s
+unfolding drawing
+refused_drawn m e r s p q = drawn_not (drawing m) r e s (ap drawing p) q
 
-pub fine_drawn : (m : Meshed) (n r : ℕ) (s s' : List ℕ) → m.verdict ≡ Fine → n ≡ length (row triangle_answer (triangles_in m.triples)) → s' ≡ sets s 0 (row triangle_answer (triangles_in m.triples)) → r ≡ 256 * n → Drawn (drawing m) r s s'
-unfolding drawing heard told_of written
-fine_drawn m n r s s' p k e q = rw p (record { number = q ∙ ap (λ x. 256 * x) k; bytes = e })
+pub fine_drawn : (m : Outcome Triples) (t : Triples) (n r : ℕ) (s s' : List ℕ) → m ≡ Ok t → n ≡ length (row triangle_answer (triangles_in t)) → s' ≡ sets s 0 (row triangle_answer (triangles_in t)) → r ≡ 256 * n → Drawn (drawing m) r s s'
+unfolding drawing told_of written
+fine_drawn m t n r s s' p k e q = rw p (record { number = q ∙ ap (λ x. 256 * x) k; bytes = e })
 
 -- ---- the corners out of the bytes
 
@@ -130,28 +128,27 @@ facet_same l y s h =
 triples_are : (l : List Triangle) → triangles_in (triples l) ≡ l
 triples_are l = take_at l _ _ refl
 
-few_by : (p : Precision) (f : Face) (o : Outcome (List Triangle)) → mesh_of p f ≡ o → (meshed o).triples.n ≤ length f.points - 2
+few_by : (p : Precision) (f : Face) (o : Outcome (List Triangle)) (size : ℕ) → mesh_of p f ≡ o → length f.points ≤ 128 → 64 * length f.points ≤ size → Few (meshed o) size
 unfolding meshed
-few_by p f (ok l) e = let m = facet_mesh p f l e in omega (arith, m.many, m.mesh.most)
-few_by p f (refused r) e = omega arith
+few_by p f (Ok l) size e few room = let m = facet_mesh p f l e in (omega (arith, m.many, m.mesh.most), omega (arith, m.many, m.mesh.most))
+few_by p f (Err r) size e few room = tt
 
 -- the code's answer tells the outcome of the mesh
-drawing_is : (o : Outcome (List Triangle)) → drawing (meshed o) ≡ then o (λ ts. ok (mesh_answer ts))
-unfolding drawing heard meshed
-drawing_is (ok l) = ap (λ x. ok (row triangle_answer x)) (triples_are l)
-drawing_is (refused r) = refl
+drawing_is : (o : Outcome (List Triangle)) → drawing (meshed o) ≡ then o (λ ts. Ok (mesh_answer ts))
+unfolding drawing meshed
+drawing_is (Ok l) = ap (λ x. Ok (row triangle_answer x)) (triples_are l)
+drawing_is (Err r) = refl
 
-module _ (l : List ℕ) (y : FacetLayout) (s s' : List Float) (fit : 3 * y.points ≤ length s) (u : s' ≡ sets s 0 (flat (points_from l y.start y.points))) (m : Meshed)
+module _ (l : List ℕ) (y : FacetLayout) (s s' : List Float) (fit : 3 * y.points ≤ length s) (u : s' ≡ sets s 0 (flat (points_from l y.start y.points))) (m : Outcome Triples)
     (e : m ≡ meshed (mesh_of y.precision (facet y.plane (take (3 * y.points) s')))) where
   meshed_same : m ≡ meshed (mesh_of y.precision (face_of (facet_at l y)))
   meshed_same = e ∙ ap (λ x. meshed (mesh_of y.precision (facet y.plane (take (3 * y.points) x)))) u ∙ ap (λ f. meshed (mesh_of y.precision f)) (facet_same l y s fit)
 
-  pub few_triangles : m.triples.n ≤ y.points - 2
+  pub few_triangles : (size : ℕ) → y.points ≤ 128 → 64 * y.points ≤ size → Few m size
   unfolding facet_at points_from
-  few_triangles =
-      let h = few_by y.precision (face_of (facet_at l y)) (mesh_of y.precision (face_of (facet_at l y))) refl in
+  few_triangles size few room =
       let n : length (face_of (facet_at l y)).points ≡ y.points = length_from l y.start y.points in
-      rw meshed_same (omega (arith, h, n))
+      subst (λ x. Few x size) (sym meshed_same) (few_by y.precision (face_of (facet_at l y)) (mesh_of y.precision (face_of (facet_at l y))) size refl (omega (arith, n)) (omega (arith, n)))
 
   pub facet_drawn : (r : ℕ) (a b : List ℕ) → Drawn (drawing m) r a b → Drawn (mesh_bytes (facet_at l y)) r a b
   unfolding mesh_bytes facet_at
@@ -162,23 +159,21 @@ module _ (l : List ℕ) (y : FacetLayout) (s s' : List Float) (fit : 3 * y.point
 pub not_small : (b : Bool) (size n : ℕ) → b ≡ is_small size n → b ≡ false → 64 * n ≤ size
 not_small b size n h t = let k = ltb-false (size / 64) n (sym h ∙ t) in omega (arith, k)
 
-module _ (size : ℕ) (l : List ℕ) (laid : FacetLaid) (e : facet_laid laid ≡ facet_layout l) where
-  call_is : mesh_call size l ≡ then (facet_laid laid) (λ y. mesh_facet size (facet_at l y))
+module _ (size : ℕ) (l : List ℕ) (laid : Outcome FacetLayout) (e : laid ≡ facet_layout l) where
+  call_is : mesh_call size l ≡ then (laid) (λ y. mesh_facet size (facet_at l y))
   unfolding mesh_call read_facet
   call_is = by (facet_layout l) ∙ ap (λ o. then o (λ y. mesh_facet size (facet_at l y))) (sym e)
     where
-      by : (o : Outcome FacetLayout) → then (then o (λ y. ok (facet_at l y))) (mesh_facet size) ≡ then o (λ y. mesh_facet size (facet_at l y))
-      by (ok y) = refl
-      by (refused r) = refl
+      by : (o : Outcome FacetLayout) → then (then o (λ y. Ok (facet_at l y))) (mesh_facet size) ≡ then o (λ y. mesh_facet size (facet_at l y))
+      by (Ok y) = refl
+      by (Err r) = refl
 
-  pub not_read : (r : Refusal) (n : ℕ) (s : List ℕ) → laid ≡ F.Refused r → n ≡ r.number → Drawn (mesh_call size l) n s s
-  unfolding facet_laid
-  not_read r n s p q = drawn_not (mesh_call size l) n r s (call_is ∙ ap (λ k. then (facet_laid k) (λ y. mesh_facet size (facet_at l y))) p) q
+  pub not_read : (r : Refusal) (n : ℕ) (s : List ℕ) → laid ≡ Err r → n ≡ r.number → Drawn (mesh_call size l) n s s
+  not_read r n s p q = drawn_not (mesh_call size l) n r s (call_is ∙ ap (λ k. then (k) (λ y. mesh_facet size (facet_at l y))) p) q
 
-  module _ (y : FacetLayout) (made : laid ≡ F.Made y) where
+  module _ (y : FacetLayout) (made : laid ≡ Ok y) where
     call_on : mesh_call size l ≡ mesh_facet size (facet_at l y)
-    unfolding facet_laid
-    call_on = call_is ∙ ap (λ k. then (facet_laid k) (λ z. mesh_facet size (facet_at l z))) made
+    call_on = call_is ∙ ap (λ k. then (k) (λ z. mesh_facet size (facet_at l z))) made
 
     many : length (facet_at l y).points ≡ y.points
     unfolding facet_at points_from
@@ -195,4 +190,4 @@ module _ (size : ℕ) (l : List ℕ) (laid : FacetLaid) (e : facet_laid laid ≡
     -- 12 above 128 corners is the mesh's own
     pub many_corners : (b : Bool) (s : List ℕ) → b ≡ is_small size y.points → b ≡ false → 128 < y.points → Drawn (mesh_call size l) 12 s s
     unfolding mesh_bytes mesh_of facet_at
-    many_corners b s h t k = roomy b 12 s s h t (drawn_not _ 12 (refusal_of 12) s (ap (λ c. then (unless c 12 (unless (not (fair_facet y.precision (face_of (facet_at l y)))) 2 (mesh_on y.precision (face_of (facet_at l y))))) (λ ts. ok (mesh_answer ts))) (lt-ltb 128 (length (facet_at l y).points) (omega (arith, many)))) refl)
+    many_corners b s h t k = roomy b 12 s s h t (drawn_not _ 12 (refusal_of 12) s (ap (λ c. then (unless c 12 (unless (not (fair_facet y.precision (face_of (facet_at l y)))) 2 (mesh_on y.precision (face_of (facet_at l y))))) (λ ts. Ok (mesh_answer ts))) (lt-ltb 128 (length (facet_at l y).points) (omega (arith, many)))) refl)

@@ -1,6 +1,6 @@
 -- The mesh of one facet from bytes to bytes. Definitions only.
-use Rattle.std.specs.Prelude.{ℕ, ◌/◌, Bool, ◌≡◌, List, ◌++◌, length, take, ltb}
-use Rattle.refusal.specs.Outcome.{Outcome, ok, then, unless}
+use Rattle.std.specs.Prelude.{ℕ, ◌/◌, Bool, ◌≡◌, List, ◌++◌, length, take, ltb, Ok}
+use Rattle.refusal.specs.Outcome.{Outcome, then, unless}
 use Rattle.space.specs.Shapes.{Face}
 use Rattle.words.specs.Little.{digits}
 use Rattle.job.specs.Bytes.{Facet}
@@ -26,7 +26,7 @@ abbrev pub is_small : ℕ → ℕ → Bool
 is_small size n = ltb (size / 64) n
 
 unfoldable pub mesh_bytes : Facet → Outcome (List ℕ)
-mesh_bytes f = then (mesh_of f.precision (face_of f)) (λ ts. ok (mesh_answer ts))
+mesh_bytes f = then (mesh_of f.precision (face_of f)) (λ ts. Ok (mesh_answer ts))
 
 -- 1, then 12 for a small answer, then the mesh's own order
 unfoldable pub mesh_facet : ℕ → Facet → Outcome (List ℕ)

@@ -6,12 +6,12 @@ ghost use Rattle.std.proofs.lemmas.List.Edits.{sets};
 ghost use Rattle.job.specs.Read.{facet_at};
 ghost use Rattle.writer.specs.Rows.{row};
 ghost use Rattle.solid_mesh.specs.Mesh.{triangle_answer, triangles_in, Drawn, is_small, mesh_bytes, mesh_call};
-ghost use Rattle.solid_mesh.specs.Laws.{drawing};
+ghost use Rattle.solid_mesh.specs.Laws.{drawing, Few};
 
 use ears::Triangle;
-use job::{FacetLaid, FacetLayout};
-use mesh::{Meshed, Triples};
-use refusal::Verdict;
+use job::FacetLayout;
+use mesh::Triples;
+use refusal::Refusal;
 
 fn put_triangle(out: &mut [u8], at: usize, w: Triangle)
     requires { at + 12 ≤ length out.old }
@@ -28,26 +28,20 @@ fn put_triples(out: &mut [u8], t: Triples) -> usize
     ensures value { (result ≡ length (row triangle_answer (triangles_in t))) × (result ≤ 1512) }
     ensures out_after { out.new ≡ sets out.old 0 (row triangle_answer (triangles_in t)) }
 {
-    let n = t.n;
-    let mut i = 0;
-    while i < n {
-        let w = t.at[i];
-        put_triangle(out, 12 * i, w);
-        i += 1;
+    for i in 0..t.n {
+        put_triangle(out, 12 * i, t.at[i]);
     }
-    12 * n
+    12 * t.n
 }
 
 // The triangles, or the number of the refusal.
-fn put_meshed(out: &mut [u8], m: Meshed) -> u64
-    requires { (m.triples.n ≤ 126) × (12 * m.triples.n ≤ length out.old) }
+fn put_meshed(out: &mut [u8], m: Result<Triples, Refusal>) -> u64
+    requires { Few m (length out.old) }
     ensures { Drawn (drawing m) result out.old out.new }
 {
-    let v = m.verdict;
-    let t = m.triples;
-    match v {
-        Verdict::Refused(e) => e.number,
-        Verdict::Fine => {
+    match m {
+        Err(e) => e.number,
+        Ok(t) => {
             let n = put_triples(out, t);
             256 * (n as u64)
         }
@@ -76,10 +70,9 @@ fn is_small(size: usize, n: usize) -> bool
 pub fn mesh(facet: &[u8], answer: &mut [u8]) -> u64
     ensures { Drawn (mesh_call (length answer.old) facet.now) result answer.old answer.new }
 {
-    let laid = job::read_facet(facet);
-    match laid {
-        FacetLaid::Refused(r) => r.number,
-        FacetLaid::Made(y) => {
+    match job::read_facet(facet) {
+        Err(r) => r.number,
+        Ok(y) => {
             if is_small(answer.len(), y.points) {
                 return 12;
             }

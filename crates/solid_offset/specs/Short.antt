@@ -1,9 +1,9 @@
 -- No answer has more than 65,536 bytes: a checked cell has at most 64 faces and 384 corners, and so has the moved one.
-use Rattle.std.specs.Prelude.{◌≡◌, refl, Bool, true, false, List, [], map, ◌++◌, ℕ, ◌+◌, ◌*◌, ◌≤◌, length, ltb, Float}
+use Rattle.std.specs.Prelude.{◌≡◌, refl, Bool, true, false, List, [], map, ◌++◌, ℕ, ◌+◌, ◌*◌, ◌≤◌, length, ltb, Float, Ok, Err}
 use Rattle.std.proofs.Common.{sym, ap, ◌∙◌, subst, arith, length-append}
 use Rattle.std.proofs.lemmas.List.{length-map}
 use Rattle.std.specs.Float.Ieee.{neg}
-use Rattle.refusal.specs.Outcome.{Outcome, ok, refused, unless, each}
+use Rattle.refusal.specs.Outcome.{Outcome, unless, each}
 use Rattle.refusal.specs.Laws.{same_ok, then_ok, unless_ok}
 use Rattle.space.specs.declared.Precision.{Precision}
 use Rattle.space.specs.Shapes.{Cell, Solid, corners}
@@ -33,27 +33,27 @@ pub record Brief (o : Outcome (List ℕ)) (a₀ a : List ℕ) (r : Ended) : Type
   pub handed : Handed o a₀ a r
   pub few : r.bytes ≤ 65536
 
-fits_few : (b : Bool) (l a₀ a : List ℕ) (r : Ended) → Handed (unless b 12 (ok l)) a₀ a r → length l ≤ 65536 → r.bytes ≤ 65536
+fits_few : (b : Bool) (l a₀ a : List ℕ) (r : Ended) → Handed (unless b 12 (Ok l)) a₀ a r → length l ≤ 65536 → r.bytes ≤ 65536
 unfolding Handed
 fits_few true l a₀ a r h n = omega (arith, ap (λ e. e.bytes) h.0)
 fits_few false l a₀ a r h n = omega (arith, ap (λ e. e.bytes) h.0, n)
 
-pub handed_brief : (k : ℕ) (o : Outcome (List ℕ)) (a₀ a : List ℕ) (r : Ended) → Handed (fitted k o) a₀ a r → ((l : List ℕ) → o ≡ ok l → length l ≤ 65536) → Brief (fitted k o) a₀ a r
+pub handed_brief : (k : ℕ) (o : Outcome (List ℕ)) (a₀ a : List ℕ) (r : Ended) → Handed (fitted k o) a₀ a r → ((l : List ℕ) → o ≡ Ok l → length l ≤ 65536) → Brief (fitted k o) a₀ a r
 unfolding fitted Handed
-handed_brief k (ok l) a₀ a r h n = record { handed = h; few = fits_few (ltb k (length l)) l a₀ a r h (n l refl) }
-handed_brief k (refused x) a₀ a r h n = record { handed = h; few = omega (arith, ap (λ e. e.bytes) h.0) }
+handed_brief k (Ok l) a₀ a r h n = record { handed = h; few = fits_few (ltb k (length l)) l a₀ a r h (n l refl) }
+handed_brief k (Err x) a₀ a r h n = record { handed = h; few = omega (arith, ap (λ e. e.bytes) h.0) }
 
 same_many : (a b : Cell) → cell_counts a ≡ cell_counts b → length a ≡ length b
 same_many a b e = sym (length_cell_counts a) ∙ ap length e ∙ length_cell_counts b
 
 -- ---- the offset
 
-pub offset_short : (t : Precision) (room : ℕ) (d : Float) (c : Cell) → length c ≤ 64 → corners 0 c ≤ 384 → (l : List ℕ) → offset_call t room d c ≡ ok l → length l ≤ 65536
+pub offset_short : (t : Precision) (room : ℕ) (d : Float) (c : Cell) → length c ≤ 64 → corners 0 c ≤ 384 → (l : List ℕ) → offset_call t room d c ≡ Ok l → length l ≤ 65536
 unfolding offset_call built_answer offset_answer
 offset_short t room d c n k l e =
     let m = then_ok (offset_cell t d c) (built_answer t room) l e in
     let s = then_ok (built t m.0) (offset_answer room) l m.2 in
-    let a = unless_ok (ltb room (length (flat s.0.faces))) 12 (ok (solid_answer s.0)) l s.2 in
+    let a = unless_ok (ltb room (length (flat s.0.faces))) 12 (Ok (solid_answer s.0)) l s.2 in
     let i = (built_indexed t m.0 s.0 s.1).0 in
     let q = indexed_counts t m.0 s.0 i in
     let g = offset_counts t d c m.0 m.1 in
@@ -62,7 +62,7 @@ offset_short t room d c n k l e =
 
 -- ---- the hollow
 
-pub hollow_short : (t : Precision) (room : ℕ) (w : Float) (c : Cell) → length c ≤ 64 → corners 0 c ≤ 384 → (l : List ℕ) → hollow_call t room w c ≡ ok l → length l ≤ 65536
+pub hollow_short : (t : Precision) (room : ℕ) (w : Float) (c : Cell) → length c ≤ 64 → corners 0 c ≤ 384 → (l : List ℕ) → hollow_call t room w c ≡ Ok l → length l ≤ 65536
 unfolding hollow_call shell_call wall_call built_cell hollow_answer cell_counts
 hollow_short t room w c n k l e =
     let m = then_ok (offset_cell t (neg w) c) (shell_call t room c) l e in

@@ -1,8 +1,8 @@
 -- The call of a hollow is the hollow solid's definition over the check's outcome, with its two shells as bytes; so its theorem speaks of the call.
-use Rattle.std.specs.Prelude.{◌≡◌, refl, Bool, true, false, not, List, ℕ, Float}
+use Rattle.std.specs.Prelude.{◌≡◌, refl, Bool, true, false, not, List, ℕ, Float, Ok, Err}
 use Rattle.std.proofs.Common.{sym, ap, ◌∙◌, subst}
 use Rattle.std.specs.Float.Ieee.{neg}
-use Rattle.refusal.specs.Outcome.{Outcome, ok, refused, then, unless}
+use Rattle.refusal.specs.Outcome.{Outcome, then, unless}
 use Rattle.refusal.specs.Laws.{then_ok}
 use Rattle.space.specs.declared.Precision.{Precision}
 use Rattle.space.specs.Shapes.{Cell}
@@ -21,8 +21,8 @@ use Rattle.solid_offset.specs.Entries.{hollow_laid}
 
 -- the same next step wherever there is an answer
 then_same : {A B : Type 0} (o : Outcome A) (f g : A → Outcome B) → ((a : A) → f a ≡ g a) → then o f ≡ then o g
-then_same (ok a) f g h = h a
-then_same (refused r) f g h = refl
+then_same (Ok a) f g h = h a
+then_same (Err r) f g h = refl
 
 unless_then : {A B : Type 0} (b : Bool) (n : ℕ) (o : Outcome A) (f : A → Outcome B) → then (unless b n o) f ≡ unless b n (then o f)
 unless_then true n o f = refl
@@ -45,8 +45,8 @@ laid_is l room w y =
     sym (unless_then (not (thick t w)) 28 (then o f) answer_of ∙ ap (unless (not (thick t w)) 28) (then_then o f answer_of ∙ then_same o (λ c. then (f c) answer_of) (hollow_call t room w) (cell_is t room w)))
 
 -- when the call answers, every corner of the inner shell is certified Negative against every outer plane
-pub call_inside : (l : List ℕ) (room : ℕ) (w : Float) (y : CellLayout) (bytes : List ℕ) → hollow_laid l room w y ≡ ok bytes →
-    (h : Hollow) × (ok (hollow_answer h) ≡ ok bytes) × All (λ f. All (λ q. All (λ b. side_of y.precision b.plane q ≡ S.Negative) h.outer) f.points) h.inner
+pub call_inside : (l : List ℕ) (room : ℕ) (w : Float) (y : CellLayout) (bytes : List ℕ) → hollow_laid l room w y ≡ Ok bytes →
+    (h : Hollow) × (◌≡◌ {A = Outcome (List ℕ)} (Ok (hollow_answer h)) (Ok bytes)) × All (λ f. All (λ q. All (λ b. side_of y.precision b.plane q ≡ Ok S.Negative) h.outer) f.points) h.inner
 call_inside l room w y bytes e =
     let t = y.precision in
     let o = check true t (solid_at l y.solid) in

@@ -11,8 +11,8 @@ ghost use Rattle.solid_offset.specs.Entries.{lent, offset_laid, offset_entry, ho
 ghost use Rattle.solid_offset.specs.Short.{Brief};
 
 use ended::Ended;
-use job::{CellLaid, CellLayout};
-use refusal::Verdict;
+use job::CellLayout;
+use refusal::Refusal;
 use space::Precision;
 
 // The offset of a checked cell of n faces; its small work memory is the call's own.
@@ -132,13 +132,9 @@ fn offset_laid(
 {
     let t = y.precision;
     let taken = intake::take_solid(t, cell, y.solid, s, counts);
-    let v = taken.verdict;
-    match v {
-        Verdict::Refused(r) => ended::stop(r),
-        Verdict::Fine => {
-            let n = taken.faces;
-            offset_here(t, limit, d, s, counts, n, dst, sizes, answer)
-        }
+    match taken {
+        Err(r) => ended::stop(r),
+        Ok(n) => offset_here(t, limit, d, s, counts, n, dst, sizes, answer),
     }
 }
 
@@ -162,13 +158,9 @@ fn hollow_laid(
         return ended::stop(refusal::refuse(28));
     }
     let taken = intake::take_solid(t, cell, y.solid, s, counts);
-    let v = taken.verdict;
-    match v {
-        Verdict::Refused(r) => ended::stop(r),
-        Verdict::Fine => {
-            let n = taken.faces;
-            hollow_here(t, limit, w, s, counts, n, dst, sizes, answer)
-        }
+    match taken {
+        Err(r) => ended::stop(r),
+        Ok(n) => hollow_here(t, limit, w, s, counts, n, dst, sizes, answer),
     }
 }
 
@@ -194,8 +186,8 @@ fn offset_served(
 {
     let read = jobs::open_cell(cell, lends);
     match read {
-        CellLaid::Refused(r) => ended::stop(r),
-        CellLaid::Made(y) => offset_laid(cell, y, limit, d, s, counts, dst, sizes, answer),
+        Err(r) => ended::stop(r),
+        Ok(y) => offset_laid(cell, y, limit, d, s, counts, dst, sizes, answer),
     }
 }
 
@@ -215,8 +207,8 @@ fn hollow_served(
 {
     let read = jobs::open_cell(cell, lends);
     match read {
-        CellLaid::Refused(r) => ended::stop(r),
-        CellLaid::Made(y) => hollow_laid(cell, y, limit, w, s, counts, dst, sizes, answer),
+        Err(r) => ended::stop(r),
+        Ok(y) => hollow_laid(cell, y, limit, w, s, counts, dst, sizes, answer),
     }
 }
 

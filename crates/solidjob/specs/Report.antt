@@ -1,9 +1,9 @@
 -- What the program prints for a job (01, "Job file").
-use Rattle.std.specs.Prelude.{◌≡◌, refl, Bool, true, List, [], ℕ, ◌*◌, ◌≤◌, length, take}
+use Rattle.std.specs.Prelude.{◌≡◌, refl, Bool, true, List, [], ℕ, ◌*◌, ◌≤◌, length, take, Ok, Err}
 use Rattle.std.proofs.Common.{sym, ap, ◌∙◌, append-nil, arith, length-take-le, take_at}
 use Rattle.std.proofs.lemmas.List.Edits.{sets, sets-eq}
 use Rattle.std.proofs.Math.Seq.{length-sets}
-use Rattle.refusal.specs.Outcome.{Outcome, ok, refused}
+use Rattle.refusal.specs.Outcome.{Outcome}
 use Rattle.space.specs.Shapes.{Face}
 use Rattle.lent.specs.Lent.{number_by}
 use Rattle.ended.specs.declared.Ended.{Ended}
@@ -22,28 +22,28 @@ IsPrefixLen n xs = (n ≤ length xs) × (n ≡ length (take n xs))
 
 -- "A refusal prints the first line alone, with its number"
 unfoldable pub printed : Outcome (List ℕ) → List ℕ
-printed (ok l) = lines_of 0 l
-printed (refused r) = answer_line r.number
+printed (Ok l) = lines_of 0 l
+printed (Err r) = answer_line r.number
 
 -- "reads it from standard input, lends room for 720 corners, and fuses"
 unfoldable pub report : List ℕ → List ℕ
 report job = printed (fuse_entry true 720 job)
 
 -- of an answer the lines of its bodies are printed, each count the length of its list
-pub report_bodies : (job : List ℕ) (bs : List (List (List Face))) → fuse_entry true 720 job ≡ ok (fused_answer bs) → report job ≡ fused_lines bs
+pub report_bodies : (job : List ℕ) (bs : List (List (List Face))) → fuse_entry true 720 job ≡ Ok (fused_answer bs) → report job ≡ fused_lines bs
 unfolding report printed
 report_bodies job bs e = ap printed e ∙ lines_bodies bs (omega (arith, entry_short true 720 job (fused_answer bs) e))
 
 -- ---- the code
 
 unfoldable pub bytes_of : Outcome (List ℕ) → List ℕ
-bytes_of (ok l) = l
-bytes_of (refused r) = []
+bytes_of (Ok l) = l
+bytes_of (Err r) = []
 
 bytes_taken : (o : Outcome (List ℕ)) (a : List ℕ) → (ended_of o).bytes ≤ length a → take (ended_of o).bytes (written o a) ≡ bytes_of o
 unfolding bytes_of ended_of written
-bytes_taken (ok l) a h = ap (take (length l)) (sets-eq l a 0 (omega (arith, h))) ∙ take_at l _ (length l) refl
-bytes_taken (refused r) a h = refl
+bytes_taken (Ok l) a h = ap (take (length l)) (sets-eq l a 0 (omega (arith, h))) ∙ take_at l _ (length l) refl
+bytes_taken (Err r) a h = refl
 
 -- what the job's call hands on
 abbrev pub Done : List ℕ → Ended → List ℕ → Type 0
@@ -74,8 +74,8 @@ job_fused l a a' r h k m =
 
 printed_is : (o : Outcome (List ℕ)) → lines_of (number_by (ended_of o).verdict) (bytes_of o) ≡ printed o
 unfolding number_by printed ended_of bytes_of lines_of walk
-printed_is (ok l) = refl
-printed_is (refused r) = append-nil (answer_line r.number)
+printed_is (Ok l) = refl
+printed_is (Err r) = append-nil (answer_line r.number)
 
 pub report_put : (l a text text' : List ℕ) (e : Ended) (n r : ℕ) → Done l e a → n ≡ number_by e.verdict → (r ≡ length (lines_of n (take e.bytes a))) × (r ≤ length text) → text' ≡ sets text 0 (lines_of n (take e.bytes a)) →
     ((r ≡ length (report l)) × IsPrefixLen r text') × (text' ≡ sets text 0 (report l))

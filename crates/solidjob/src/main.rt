@@ -87,6 +87,7 @@ fn read_full(from: &mut impl Read, list: &mut [u8]) -> io::Result<usize>
     ensures { ReadsAtMost result list.new }
 {
     let mut done = 0;
+    // How much a read brings, only the input says.
     while done < list.len() {
         let n = from.read(&mut list[done..])?;
         if n == 0 {

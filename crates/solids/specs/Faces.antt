@@ -1,11 +1,9 @@
 -- Laws of loops over the faces of a solid in slices.
-use Rattle.std.specs.Prelude.{◌≡◌, refl, Bool, true, false, ◌&&◌, List, [], ◌∷◌, ℕ, zero, suc, ◌+◌, ◌*◌, ◌≤◌, ◌<◌, length, drop, get_or, ltb, Float}
+use Rattle.std.specs.Prelude.{◌≡◌, refl, Bool, true, false, ◌&&◌, List, [], ◌∷◌, ℕ, zero, suc, ◌+◌, ◌*◌, ◌≤◌, ◌<◌, length, drop, get_or, ltb, Float, Ok, Err}
 use Rattle.std.proofs.Math.Path.{sym, ap}
 use Rattle.std.proofs.Common.{◌∙◌, arith, length-drop, length-take, get_or-take, get_or-drop, lt-ltb, le-ltb}
 use Rattle.refusal.specs.declared.Refusal.{Refusal}
-use Rattle.refusal.specs.declared.Verdict.{Verdict}
-use Rattle.refusal.specs.declared.Verdict.TheVariants as D
-use Rattle.refusal.specs.Outcome.{unless, refuse}
+use Rattle.refusal.specs.Outcome.{Outcome, unless, refuse}
 use Rattle.space.specs.declared.Point3.{Point3}
 use Rattle.space.specs.declared.Precision.{Precision}
 use Rattle.space.specs.Vector.{origin}
@@ -105,27 +103,27 @@ module _ {l counts : List ℕ} {n at j : ℕ} (I : Along l counts n at j) (room 
   along_end h = ap (faces_at l at) (counts_done counts 0 n j h)
 
 -- the same, where the j faces are fine
-pub record Facing (g : List ℕ → Verdict) (l counts : List ℕ) (n at j : ℕ) : Type 0 where
+pub record Facing (g : List ℕ → Outcome Unit) (l counts : List ℕ) (n at j : ℕ) : Type 0 where
   pub along : Along l counts n at j
   pub rest : each_in g (faces_at l at (drop j (counts_at counts 0 n))) ≡ each_in g (faces_at l 0 (counts_at counts 0 n))
 
-pub facing_start : (g : List ℕ → Verdict) (l counts : List ℕ) (n : ℕ) → Placing (counts_at counts 0 n) 0 (length l) → Facing g l counts n 0 0
+pub facing_start : (g : List ℕ → Outcome Unit) (l counts : List ℕ) (n : ℕ) → Placing (counts_at counts 0 n) 0 (length l) → Facing g l counts n 0 0
 facing_start g l counts n h = record { along = along_start l counts n h; rest = refl }
 
-module _ {g : List ℕ → Verdict} {l counts : List ℕ} {n at j : ℕ} (I : Facing g l counts n at j) (room : n ≤ length counts) where
+module _ {g : List ℕ → Outcome Unit} {l counts : List ℕ} {n at j : ℕ} (I : Facing g l counts n at j) (room : n ≤ length counts) where
   pub facing_room : j < n → at + get_or counts j 0 ≤ length l
   facing_room h = along_room I.along room h
 
   onward : j < n → each_in g (counts_at l at (get_or counts j 0) ∷ faces_at l (at + get_or counts j 0) (drop (j + 1) (counts_at counts 0 n))) ≡ each_in g (faces_at l 0 (counts_at counts 0 n))
   onward h = ap (each_in g) (sym (along_face I.along room h)) ∙ I.rest
 
-  pub facing_go : j < n → g (counts_at l at (get_or counts j 0)) ≡ D.Fine → Facing g l counts n (at + get_or counts j 0) (j + 1)
+  pub facing_go : j < n → g (counts_at l at (get_or counts j 0)) ≡ Ok tt → Facing g l counts n (at + get_or counts j 0) (j + 1)
   facing_go h e = record { along = along_next I.along room h; rest = sym (each_go g _ _ e) ∙ onward h }
 
-  pub facing_stop : (r : Refusal) → j < n → g (counts_at l at (get_or counts j 0)) ≡ D.Refused r → each_in g (faces_at l 0 (counts_at counts 0 n)) ≡ D.Refused r
+  pub facing_stop : (r : Refusal) → j < n → g (counts_at l at (get_or counts j 0)) ≡ Err r → each_in g (faces_at l 0 (counts_at counts 0 n)) ≡ Err r
   facing_stop r h e = sym (onward h) ∙ each_stop g _ _ r e
 
-  pub facing_end : n ≤ j → each_in g (faces_at l 0 (counts_at counts 0 n)) ≡ D.Fine
+  pub facing_end : n ≤ j → each_in g (faces_at l 0 (counts_at counts 0 n)) ≡ Ok tt
   unfolding each_in
   facing_end h = sym I.rest ∙ ap (each_in g) (along_end I.along room h)
 
@@ -151,14 +149,14 @@ counts_end g b l n j h = ap (all g b) (counts_done l 0 n j h)
 
 -- ---- the order of the checks
 
-pub shape_frames : (given : Bool) (t : Precision) (ps : List Point3) (fs : List (List ℕ)) (r : Refusal) → framed_all t ps fs ≡ D.Refused r → shaped given t ps fs ≡ D.Refused r
+pub shape_frames : (given : Bool) (t : Precision) (ps : List Point3) (fs : List (List ℕ)) (r : Refusal) → framed_all t ps fs ≡ Err r → shaped given t ps fs ≡ Err r
 unfolding shaped
 shape_frames given t ps fs r e = first_stop (framed_all t ps fs) _ r e
 
-pub shape_pairs : (given : Bool) (t : Precision) (ps : List Point3) (fs : List (List ℕ)) (r : Refusal) → framed_all t ps fs ≡ D.Fine → apart_all t ps ≡ D.Refused r → shaped given t ps fs ≡ D.Refused r
+pub shape_pairs : (given : Bool) (t : Precision) (ps : List Point3) (fs : List (List ℕ)) (r : Refusal) → framed_all t ps fs ≡ Ok tt → apart_all t ps ≡ Err r → shaped given t ps fs ≡ Err r
 unfolding shaped
 shape_pairs given t ps fs r e g = first_go (framed_all t ps fs) _ e ∙ first_stop (apart_all t ps) _ r g
 
-pub shape_sides : (given : Bool) (t : Precision) (ps : List Point3) (fs : List (List ℕ)) → framed_all t ps fs ≡ D.Fine → apart_all t ps ≡ D.Fine → shaped given t ps fs ≡ sides_all given t ps fs
+pub shape_sides : (given : Bool) (t : Precision) (ps : List Point3) (fs : List (List ℕ)) → framed_all t ps fs ≡ Ok tt → apart_all t ps ≡ Ok tt → shaped given t ps fs ≡ sides_all given t ps fs
 unfolding shaped
 shape_sides given t ps fs e g = first_go (framed_all t ps fs) _ e ∙ first_go (apart_all t ps) _ g

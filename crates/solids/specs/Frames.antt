@@ -1,8 +1,6 @@
 -- The faces with their planes: frames in face order (5), and the sides of all points. Definitions only.
-use Rattle.std.specs.Prelude.{ℕ, ◌+◌, ◌≤◌, Bool, true, false, List, [], ◌∷◌, length, get_or, ltb}
-use Rattle.refusal.specs.declared.Verdict.{Verdict}
-use Rattle.refusal.specs.declared.Verdict.TheVariants as D
-use Rattle.refusal.specs.Outcome.{Outcome, ok, refused, unless, verdict_of}
+use Rattle.std.specs.Prelude.{ℕ, ◌+◌, ◌≤◌, Bool, List, [], ◌∷◌, length, get_or, ltb, Ok, Err}
+use Rattle.refusal.specs.Outcome.{Outcome, unless, verdict_of}
 use Rattle.space.specs.declared.Point3.{Point3}
 use Rattle.space.specs.declared.Plane.{Plane}
 use Rattle.space.specs.declared.Precision.{Precision}
@@ -26,7 +24,7 @@ unfoldable pub faces_at : List ℕ → ℕ → List ℕ → List (List ℕ)
 faces_at l at [] = []
 faces_at l at (n ∷ ns) = counts_at l at n ∷ faces_at l (at + n) ns
 
-unfoldable pub framed_all : Precision → List Point3 → List (List ℕ) → Verdict
+unfoldable pub framed_all : Precision → List Point3 → List (List ℕ) → Outcome Unit
 framed_all t ps fs = each_in (λ f. verdict_of (plane_for t ps f)) fs
 
 -- the corners of such faces lie within m places
@@ -35,9 +33,9 @@ Placing [] at m = at ≤ m
 Placing (n ∷ ns) at m = Placing ns (at + n) m
 
 -- one face, where it has a plane: its sides, then, where it is given, its turns
-unfoldable pub sides_by : Bool → Precision → Outcome Plane → List ℕ → List Point3 → Verdict
-sides_by given t (ok w) f ps = first_of (face_sides t w f ps) (turns_if given t w f ps)
-sides_by given t (refused r) f ps = D.Refused r
+unfoldable pub sides_by : Bool → Precision → Outcome Plane → List ℕ → List Point3 → Outcome Unit
+sides_by given t (Ok w) f ps = first_of (face_sides t w f ps) (turns_if given t w f ps)
+sides_by given t (Err r) f ps = Err r
 
-unfoldable pub sides_all : Bool → Precision → List Point3 → List (List ℕ) → Verdict
+unfoldable pub sides_all : Bool → Precision → List Point3 → List (List ℕ) → Outcome Unit
 sides_all given t ps fs = each_in (λ f. sides_by given t (plane_for t ps f) f ps) fs

@@ -1,12 +1,11 @@
 -- Laws of the turns of a face, in the words of the code.
-use Rattle.std.specs.Prelude.{◌≡◌, refl, Bool, true, false, List, length, get_or}
+use Rattle.refusal.specs.Outcome.{Outcome}
+use Rattle.std.specs.Prelude.{◌≡◌, Bool, true, false, List, length, get_or, Ok, Err}
 use Rattle.std.proofs.Math.Path.{sym, ap}
 use Rattle.std.proofs.Common.{◌∙◌, mod-lt}
-use Prim.Native.Nat.{ℕ, zero, suc, ◌+◌, ◌-◌, ◌%◌, ◌≤◌, ◌<◌}
+use Prim.Native.Nat.{ℕ, suc, ◌+◌, ◌-◌, ◌%◌, ◌≤◌, ◌<◌}
 use native.Mathlib.Omega.{arith}
 use Rattle.refusal.specs.declared.Refusal.{Refusal}
-use Rattle.refusal.specs.declared.Verdict.{Verdict}
-use Rattle.refusal.specs.declared.Verdict.TheVariants as D
 use Rattle.space.specs.declared.Point3.{Point3}
 use Rattle.space.specs.declared.Plane.{Plane}
 use Rattle.space.specs.declared.Precision.{Precision}
@@ -47,13 +46,13 @@ module _ {t : Precision} {w : Plane} {f : List ℕ} {ps : List Point3} {n i : �
   onward h = let z : n - i ≡ suc (n - (i + 1)) = omega arith in ap (λ k. turns_from t w f ps k i) (sym z) ∙ I.rest
 
   -- the turn as it is worked out
-  turn_is : {c : Projected} {s : Turn} {v u : Verdict} → c ≡ flat_at w f ps (i + 2) → s ≡ orientation_of t a b c → v ≡ not_dented s → v ≡ u → not_dented (turn_at t w f ps i) ≡ u
+  turn_is : {c : Projected} {s : Outcome Turn} {v u : Outcome Unit} → c ≡ flat_at w f ps (i + 2) → s ≡ orientation_of t a b c → v ≡ not_dented s → v ≡ u → not_dented (turn_at t w f ps i) ≡ u
   turn_is {c} e p q g =
       ap not_dented
       (ap (λ z. orientation_of t z (flat_at w f ps (i + 1)) (flat_at w f ps (i + 2))) (sym I.one) ∙ ap (λ z. orientation_of t a z (flat_at w f ps (i + 2))) (sym I.two) ∙ ap (orientation_of t a b) (sym e) ∙ sym p)
       ∙ sym q ∙ g
 
-  pub turning_go : {c : Projected} {s : Turn} {v : Verdict} → i < n → c ≡ flat_at w f ps (i + 2) → s ≡ orientation_of t a b c → v ≡ not_dented s → v ≡ D.Fine → Turning t w f ps n (i + 1) b c
+  pub turning_go : {c : Projected} {s : Outcome Turn} {v : Outcome Unit} → i < n → c ≡ flat_at w f ps (i + 2) → s ≡ orientation_of t a b c → v ≡ not_dented s → v ≡ Ok tt → Turning t w f ps n (i + 1) b c
   turning_go h e p q g =
       let z : i + 2 ≡ (i + 1) + 1 = omega arith in
       record {
@@ -63,11 +62,11 @@ module _ {t : Precision} {w : Plane} {f : List ℕ} {ps : List Point3} {n i : �
         rest = sym (first_go _ _ (turn_is e p q g)) ∙ onward h;
       }
 
-  pub turning_stop : (r : Refusal) {c : Projected} {s : Turn} {v : Verdict} → i < n → c ≡ flat_at w f ps (i + 2) → s ≡ orientation_of t a b c → v ≡ not_dented s → v ≡ D.Refused r →
-      turns_from t w f ps n 0 ≡ D.Refused r
+  pub turning_stop : (r : Refusal) {c : Projected} {s : Outcome Turn} {v : Outcome Unit} → i < n → c ≡ flat_at w f ps (i + 2) → s ≡ orientation_of t a b c → v ≡ not_dented s → v ≡ Err r →
+      turns_from t w f ps n 0 ≡ Err r
   turning_stop r h e p q g = sym (onward h) ∙ first_stop _ _ r (turn_is e p q g)
 
-  pub turning_end : n ≤ i → turns_from t w f ps n 0 ≡ D.Fine
+  pub turning_end : n ≤ i → turns_from t w f ps n 0 ≡ Ok tt
   unfolding turns_from
   turning_end h = let z : n - i ≡ 0 = omega arith in sym I.rest ∙ ap (λ k. turns_from t w f ps k i) z
 
@@ -75,7 +74,7 @@ pub turns_long : (t : Precision) (w : Plane) (l : List ℕ) (ps : List Point3) (
 unfolding face_turns
 turns_long t w l ps at n h = ap (λ k. turns_from t w (counts_at l at n) ps k 0) (sym (length_face l at n h))
 
-pub turns_none : (t : Precision) (w : Plane) (l : List ℕ) (ps : List Point3) (at n : ℕ) → at + n ≤ length l → n ≡ 0 → face_turns t w (counts_at l at n) ps ≡ D.Fine
+pub turns_none : (t : Precision) (w : Plane) (l : List ℕ) (ps : List Point3) (at n : ℕ) → at + n ≤ length l → n ≡ 0 → face_turns t w (counts_at l at n) ps ≡ Ok tt
 unfolding turns_from
 turns_none t w l ps at n h e = sym (turns_long t w l ps at n h) ∙ ap (λ k. turns_from t w (counts_at l at n) ps k 0) e
 
@@ -83,6 +82,6 @@ pub turns_given : (b : Bool) (t : Precision) (w : Plane) (f : List ℕ) (ps : Li
 unfolding turns_if
 turns_given b t w f ps h = ap (λ z. turns_if z t w f ps) h
 
-pub turns_not : (b : Bool) (t : Precision) (w : Plane) (f : List ℕ) (ps : List Point3) → b ≡ false → turns_if b t w f ps ≡ D.Fine
+pub turns_not : (b : Bool) (t : Precision) (w : Plane) (f : List ℕ) (ps : List Point3) → b ≡ false → turns_if b t w f ps ≡ Ok tt
 unfolding turns_if
 turns_not b t w f ps h = ap (λ z. turns_if z t w f ps) h

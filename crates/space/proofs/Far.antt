@@ -1,4 +1,5 @@
 -- Two points are apart where one coordinate differs by enough: the square of such a difference alone is certainly above that of local, and the other squares are not below zero. Assumes nothing.
+use Rattle.std.specs.Prelude.{Ok}
 use mathlib.Core.Path.{◌≡◌, refl, sym, ap, ◌∙◌, subst}
 use mathlib.Core.Logic.{◌⊎◌, inl, inr}
 use mathlib.Core.Bool.{Bool, true, false, not, ◌&&◌, ◌||◌, cond}
@@ -92,7 +93,7 @@ from_inside s o a h =
     record { low = n.0; high = n.1; rise = le_at n.0 n.1 o.order; wide_low = a; wide_high = infinite false; under = h; over = place_most n.1 }
 
 module _ (p : Precision) (a b : Point3) (u v w : Float) (A : Number u) (B : Number v) (C : Number w) (F : place u ≤ place (gap_i a.x b.x).lo) (G : place v ≤ place (gap_i a.y b.y).lo) (H : place w ≤ place (gap_i a.z b.z).lo) where
-  more_apart : is_more p u v w ≡ true → near_of p a b ≡ Apart
+  more_apart : is_more p u v w ≡ true → near_of p a b ≡ Ok Apart
   unfolding is_more near_of closeness_of
   more_apart e =
       let X = from_inside (gap_i a.x b.x) (gap_ordered a.x b.x) A F in
@@ -159,17 +160,17 @@ module _ (p : Precision) (g : Float) (a b : Point3) (f : Held g) (R : T (is_reac
     step_above : sign_bit < place (next_down g)
     step_above = (positive_place (next_down g) (down_number G).held reach_step).1
 
-    by_x : T (not (is_nan dx)) → T (not (is_nan dy)) → T (not (is_nan dz)) → T (le g (size_of dx)) → near_of p a b ≡ Apart
+    by_x : T (not (is_nan dx)) → T (not (is_nan dy)) → T (not (is_nan dz)) → T (le g (size_of dx)) → near_of p a b ≡ Ok Apart
     by_x i j k h =
         more_apart p a b (floor_of g) zero zero floor_number zero_number zero_number (gap_far a.x b.x (number a.x b.x i) g G step_above h) (gap_low a.y b.y (number a.y b.y j)) (gap_low a.z b.z (number a.z b.z k))
         (is_true (is_more p (floor_of g) zero zero) reach_x)
 
-    by_y : T (not (is_nan dx)) → T (not (is_nan dy)) → T (not (is_nan dz)) → T (le g (size_of dy)) → near_of p a b ≡ Apart
+    by_y : T (not (is_nan dx)) → T (not (is_nan dy)) → T (not (is_nan dz)) → T (le g (size_of dy)) → near_of p a b ≡ Ok Apart
     by_y i j k h =
         more_apart p a b zero (floor_of g) zero zero_number floor_number zero_number (gap_low a.x b.x (number a.x b.x i)) (gap_far a.y b.y (number a.y b.y j) g G step_above h) (gap_low a.z b.z (number a.z b.z k))
         (is_true (is_more p zero (floor_of g) zero) reach_y)
 
-    by_z : T (not (is_nan dx)) → T (not (is_nan dy)) → T (not (is_nan dz)) → T (le g (size_of dz)) → near_of p a b ≡ Apart
+    by_z : T (not (is_nan dx)) → T (not (is_nan dy)) → T (not (is_nan dz)) → T (le g (size_of dz)) → near_of p a b ≡ Ok Apart
     by_z i j k h =
         more_apart p a b zero zero (floor_of g) zero_number zero_number floor_number (gap_low a.x b.x (number a.x b.x i)) (gap_low a.y b.y (number a.y b.y j)) (gap_far a.z b.z (number a.z b.z k) g G step_above h)
         (is_true (is_more p zero zero (floor_of g)) reach_z)
@@ -177,11 +178,11 @@ module _ (p : Precision) (g : Float) (a b : Point3) (f : Held g) (R : T (is_reac
   sized : (x : Float) → Held x → T (le g (size_of x)) → Number g × T (not (is_nan x))
   sized x h l = let n = le_numbers g (size_of x) f (size_held x h) l in (n.0, size_real x n.1.real)
 
-  pub far_apart : T (is_far g dx dy dz) → near_of p a b ≡ Apart
+  pub far_apart : T (is_far g dx dy dz) → near_of p a b ≡ Ok Apart
   unfolding is_far
   far_apart h = go (le g (size_of dx)) (λ t. t) h
     where
-      rest : T ((le g (size_of dy) || le g (size_of dz)) && not (is_nan (add binary64 (add binary64 dx dy) dz))) → near_of p a b ≡ Apart
+      rest : T ((le g (size_of dy) || le g (size_of dz)) && not (is_nan (add binary64 (add binary64 dx dy) dz))) → near_of p a b ≡ Ok Apart
       rest h =
           let r = and_r (le g (size_of dy) || le g (size_of dz)) _ h in
           let s = add_left (add binary64 dx dy) dz r in
@@ -191,7 +192,7 @@ module _ (p : Precision) (g : Float) (a b : Point3) (f : Held g) (R : T (is_reac
             | inr l ↦ by_z (sized dz (sub-fits binary64 a.z b.z) l).0 (add_left dx dy s) (add_right dx dy s) k l
           ]
 
-      go : (t : Bool) → (T t → T (le g (size_of dx))) → T (cond t (not (is_nan (add binary64 dy dz))) ((le g (size_of dy) || le g (size_of dz)) && not (is_nan (add binary64 (add binary64 dx dy) dz)))) → near_of p a b ≡ Apart
+      go : (t : Bool) → (T t → T (le g (size_of dx))) → T (cond t (not (is_nan (add binary64 dy dz))) ((le g (size_of dy) || le g (size_of dz)) && not (is_nan (add binary64 (add binary64 dx dy) dz)))) → near_of p a b ≡ Ok Apart
       go true l h = let n = sized dx (sub-fits binary64 a.x b.x) (l tt) in by_x n.0 n.1 (add_left dy dz h) (add_right dy dz h) (l tt)
       go false l h = rest h
 
@@ -200,11 +201,11 @@ nan_far : (x y z : Float) → is_far nan x y z ≡ false
 unfolding is_far le
 nan_far x y z = refl
 
-pub reach_apart : (p : Precision) (g : Float) (a b : Point3) → g ≡ reach_of p → is_far g (sub binary64 a.x b.x) (sub binary64 a.y b.y) (sub binary64 a.z b.z) ≡ true → near_of p a b ≡ Apart
+pub reach_apart : (p : Precision) (g : Float) (a b : Point3) → g ≡ reach_of p → is_far g (sub binary64 a.x b.x) (sub binary64 a.y b.y) (sub binary64 a.z b.z) ≡ true → near_of p a b ≡ Ok Apart
 unfolding reach_of
 reach_apart p g a b e h = go (is_reach p (add binary64 p.local p.local)) (λ t. t) e
   where
-    go : (t : Bool) → (T t → T (is_reach p (add binary64 p.local p.local))) → g ≡ cond t (add binary64 p.local p.local) nan → near_of p a b ≡ Apart
+    go : (t : Bool) → (T t → T (is_reach p (add binary64 p.local p.local))) → g ≡ cond t (add binary64 p.local p.local) nan → near_of p a b ≡ Ok Apart
     go true r e = far_apart p g a b (subst Held (sym e) (add-fits binary64 p.local p.local)) (subst (λ (z : Float). T (is_reach p z)) (sym e) (r tt)) (subst T (sym h) tt)
     go false r e = absurd (let z : ◌≡◌ {A = ℕ} 0 1 = ap (λ (b : Bool). cond b 1 0) (sym (ap (λ (v : Float). is_far v (sub binary64 a.x b.x) (sub binary64 a.y b.y) (sub binary64 a.z b.z)) e ∙ nan_far _ _ _) ∙ h) in omega arith)
 

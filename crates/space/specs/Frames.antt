@@ -1,28 +1,16 @@
 -- Frames and planes: 5. Definitions only.
-use Rattle.std.specs.Prelude.{Bool, true, false, not, ◌&&◌, Float}
+use Rattle.std.specs.Prelude.{Bool, true, false, not, ◌&&◌, Float, Ok}
 use Rattle.std.specs.Float.Ieee.{lt, of_bits}
 use Rattle.std.specs.Float.{binary64}
 use Rattle.float.specs.Float.{finite}
-use Rattle.refusal.specs.Outcome.{Outcome, ok, refused, refuse, then, unless}
+use Rattle.refusal.specs.Outcome.{Outcome, refuse, then, unless}
 use Rattle.space.specs.declared.Point3.{Point3}
 use Rattle.space.specs.declared.Precision.{Precision}
 use Rattle.space.specs.declared.Frame.{Frame}
 use Rattle.space.specs.declared.Plane.{Plane}
-use Rattle.space.specs.declared.Framed.{Framed}
-use Rattle.space.specs.declared.Framed.TheVariants as F
-use Rattle.space.specs.declared.Planed.{Planed}
-use Rattle.space.specs.declared.Planed.TheVariants as P
 use Rattle.space.specs.Vector.{sub_v, scale_v, over_v, dot_v, cross_v, length_v}
 
 -- what the two answers say
-unfoldable pub framed : Framed → Outcome Frame
-framed (F.Made f) = ok f
-framed (F.Refused r) = refused r
-
-unfoldable pub planed : Planed → Outcome Plane
-planed (P.Made p) = ok p
-planed (P.Refused r) = refused r
-
 -- "A length that is not above linear, or not finite, refuses"
 unfoldable pub short : Precision → Float → Bool
 short p l = not (lt p.linear l && finite l)
@@ -33,7 +21,7 @@ frame_on o z x = record { origin = o; x = x; y = cross_v z x; z = z }
 
 -- "x = hint - z·(hint dot z), over its length"
 unfoldable pub frame_by : Precision → Point3 → Point3 → Point3 → Float → Outcome Frame
-frame_by p o z r l = unless (short p l) 5 (ok (frame_on o z (over_v r l)))
+frame_by p o z r l = unless (short p l) 5 (Ok (frame_on o z (over_v r l)))
 
 unfoldable pub hint_on : Point3 → Point3 → Point3
 hint_on h z = sub_v h (scale_v z (dot_v h z))
@@ -50,7 +38,7 @@ unfoldable pub frame_of : Precision → Point3 → Point3 → Point3 → Outcome
 frame_of p o n h = frame_up p o n h (length_v n)
 
 abbrev pub on_frame : Frame → Outcome Plane
-on_frame f = ok (record { frame = f; mark = of_bits binary64 0 })
+on_frame f = Ok (record { frame = f; mark = of_bits binary64 0 })
 
 unfoldable pub plane_of : Precision → Point3 → Point3 → Point3 → Outcome Plane
 plane_of p o n h = then (frame_of p o n h) on_frame
@@ -60,7 +48,7 @@ unfoldable pub remark : Float → Plane → Plane
 remark m w = record { frame = w.frame; mark = m }
 
 abbrev pub with_mark : Float → Plane → Outcome Plane
-with_mark m w = ok (remark m w)
+with_mark m w = Ok (remark m w)
 
 -- "A face's frame: origin a, normal (b-a) cross (c-a), hint b-a, of its first three corners"
 unfoldable pub face_plane : Precision → Point3 → Point3 → Point3 → Outcome Plane

@@ -1,10 +1,10 @@
 -- Laws of the call from outside, in the words of the code.
-use Rattle.std.specs.Prelude.{◌≡◌, Bool, true, false, ◌&&◌, List, [], ◌∷◌, ℕ, ◌+◌, ◌*◌, ◌/◌, ◌≤◌, ◌<◌, length, leb, ltb, Float}
+use Rattle.std.specs.Prelude.{◌≡◌, Bool, true, false, ◌&&◌, List, [], ◌∷◌, ℕ, ◌+◌, ◌*◌, ◌/◌, ◌≤◌, ◌<◌, length, leb, ltb, Float, Ok, Err}
 use Rattle.std.proofs.Math.Path.{refl, ap, subst}
 use Rattle.std.proofs.Common.{sym, ◌∙◌, arith, leb-true, ltb-true, le-leb}
 use Rattle.std.proofs.lemmas.List.Edits.{sets}
 use Rattle.std.proofs.lemmas.Bool.{lt-leb}
-use Rattle.refusal.specs.Outcome.{Outcome, ok, refused, then, number_of}
+use Rattle.refusal.specs.Outcome.{Outcome, then, number_of}
 use Rattle.refusal.specs.Laws.{never_ok}
 use Rattle.refusal.specs.Tests.{and_true}
 use Rattle.lent.specs.Lent.{number_by, where_fine}
@@ -51,9 +51,9 @@ module _ (room : ℕ) (fits : Bool) (o : Outcome (List Cell)) (d : List Float) (
   told_by : (o : Outcome (List Cell)) (s : Stack) (r : ℕ) (l' : List ℕ) (d' : List Float) (n' z' : List ℕ) → Listed room o s d' n' z' → r ≡ number_by s.verdict → l' ≡ where_fine s.verdict (sets l 0 (s.cells ∷ s.faces ∷ s.corners ∷ [])) l →
       Split room true o r d n z l d' n' z' l'
   unfolding number_of cells_told Alone number_by where_fine stack_of
-  told_by (ok cs) s r l' d' n' z' L h k =
+  told_by (Ok cs) s r l' d' n' z' L h k =
       record { number = h ∙ ap (λ x. number_by x.verdict) L.is; tells = k ∙ ap (λ x. where_fine x.verdict (sets l 0 (x.cells ∷ x.faces ∷ x.corners ∷ [])) l) L.is; lies = L.lies; alone = tt }
-  told_by (refused x) s r l' d' n' z' L h k =
+  told_by (Err x) s r l' d' n' z' L h k =
       record { number = h ∙ ap (λ x. number_by x.verdict) L.is; tells = k ∙ ap (λ x. where_fine x.verdict (sets l 0 (x.cells ∷ x.faces ∷ x.corners ∷ [])) l) L.is; lies = L.lies; alone = tt }
 
   pub split_all : fits ≡ true → (p : List Cell → Outcome (List Cell)) (i : Outcome (List Cell)) (s' s : Stack) (r : ℕ) (l' : List ℕ) (d' : List Float) (n' z' : List ℕ) → Listed room i s' d n z → o ≡ then i p →

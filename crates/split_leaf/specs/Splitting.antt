@@ -1,7 +1,7 @@
 -- Splitting a list of cells that is handed in from outside. Definitions only.
-use Rattle.std.specs.Prelude.{◌≡◌, Bool, true, false, not, ◌&&◌, List, [], ◌∷◌, ℕ, ◌+◌, ◌*◌, ◌/◌, length, leb, ltb, Float}
+use Rattle.std.specs.Prelude.{◌≡◌, Bool, true, false, not, ◌&&◌, List, [], ◌∷◌, ℕ, ◌+◌, ◌*◌, ◌/◌, length, leb, ltb, Float, Ok, Err}
 use Rattle.std.proofs.lemmas.List.Edits.{sets}
-use Rattle.refusal.specs.Outcome.{Outcome, ok, refused, then, unless, number_of}
+use Rattle.refusal.specs.Outcome.{Outcome, then, unless, number_of}
 use Rattle.space.specs.declared.Precision.{Precision}
 use Rattle.space.specs.Shapes.{Cell, all_corners}
 use Rattle.stack.specs.Stacks.{cells_counts, Lies}
@@ -18,8 +18,8 @@ split_lent t room planes k d n z = then (list_in room k d n z) (split_all t room
 
 -- how many cells, faces and corners; untouched at a refusal
 unfoldable pub cells_told : List ℕ → Outcome (List Cell) → List ℕ
-cells_told l (ok cs) = sets l 0 (length cs ∷ length (cells_counts cs) ∷ all_corners 0 cs ∷ [])
-cells_told l (refused r) = l
+cells_told l (Ok cs) = sets l 0 (length cs ∷ length (cells_counts cs) ∷ all_corners 0 cs ∷ [])
+cells_told l (Err r) = l
 
 -- what was lent too short is left alone
 unfoldable pub Alone : Bool → List Float → List ℕ → List ℕ → List Float → List ℕ → List ℕ → Type 0
@@ -30,5 +30,5 @@ Alone false d n z d' n' z' = (d' ≡ d) × (n' ≡ n) × (z' ≡ z)
 pub record Split (room : ℕ) (fits : Bool) (o : Outcome (List Cell)) (r : ℕ) (d : List Float) (n z l : List ℕ) (d' : List Float) (n' z' l' : List ℕ) : Type 0 where
   pub number : r ≡ number_of (unless (not fits) 64 o)
   pub tells : l' ≡ cells_told l (unless (not fits) 64 o)
-  pub lies : (cs : List Cell) → unless (not fits) 64 o ≡ ok cs → Lies room cs d' n' z'
+  pub lies : (cs : List Cell) → unless (not fits) 64 o ≡ Ok cs → Lies room cs d' n' z'
   pub alone : Alone fits d n z d' n' z'

@@ -7,7 +7,7 @@ ghost use Rattle.std.proofs.lemmas.List.Edits.{sets};
 ghost use Rattle.lent.specs.Lent.{number_by, where_fine};
 ghost use Rattle.split_leaf.specs.Splitting.{split_fits, split_lent, Split};
 
-use refusal::Verdict;
+use refusal::Refusal;
 use space::Precision;
 use stack::Stack;
 
@@ -34,8 +34,8 @@ fn put_stack(told: &mut [u64], s: Stack) -> u64
 {
     let v = s.verdict;
     match v {
-        Verdict::Refused(e) => e.number,
-        Verdict::Fine => {
+        Err(e) => e.number,
+        Ok(()) => {
             told[0] = s.cells as u64;
             told[1] = s.faces as u64;
             told[2] = s.corners as u64;

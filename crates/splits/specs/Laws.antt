@@ -1,5 +1,5 @@
 -- Laws of the splitting of a list, in the words of the code.
-use Rattle.std.specs.Prelude.{◌≡◌, refl, List, [], ◌∷◌, ◌++◌, ℕ, zero, suc, ◌+◌, ◌*◌, ◌≤◌, ◌<◌, length, take, drop, Float}
+use Rattle.std.specs.Prelude.{◌≡◌, refl, List, [], ◌∷◌, ◌++◌, ℕ, zero, suc, ◌+◌, ◌*◌, ◌≤◌, ◌<◌, length, take, drop, Float, Ok, Err}
 use Rattle.std.proofs.Math.Path.{sym, ap, subst}
 use Rattle.std.proofs.Common.{◌∙◌, append_assoc, arith, not-suc-le-zero, le_of_suc-le-suc, add-one, length-append, take_at, drop_at}
 use Rattle.std.proofs.Math.ListN.{get_or}
@@ -7,13 +7,9 @@ use Rattle.std.proofs.Math.Seq.{sets}
 use Rattle.std.proofs.lemmas.List.Edits.{sets-eq}
 use Rattle.std.proofs.lemmas.List.{get_or_at}
 use Rattle.refusal.specs.declared.Refusal.{Refusal}
-use Rattle.refusal.specs.declared.Verdict.TheVariants.{Fine}
-use Rattle.refusal.specs.Outcome.{Outcome, ok, refused, then, walk}
+use Rattle.refusal.specs.Outcome.{Outcome, then, walk}
 use Rattle.space.specs.declared.Plane.{Plane}
-use Rattle.space.specs.declared.Planed.{Planed}
-use Rattle.space.specs.declared.Planed.TheVariants as P
 use Rattle.space.specs.declared.Precision.{Precision}
-use Rattle.space.specs.Frames.{planed}
 use Rattle.space.specs.Shapes.{Cell, all_corners}
 use Rattle.side.specs.Sides.{opposite_of}
 use Rattle.polygon.specs.Members.{All}
@@ -137,7 +133,7 @@ pub record Splitting (t : Precision) (room : ℕ) (p o : Plane) (k : ℕ) (d : L
   pub holds : Holds room s f m y
   pub left : onward (turn t room p o) (list_at s f m y) rest ≡ split_on t room p o (cells_at d 0 n (take k z))
 
-pub splitting_start : (t : Precision) (room : ℕ) (p o : Plane) (k : ℕ) (d : List Float) (n z : List ℕ) (s : Stack) (f : List Float) (m y : List ℕ) → Standing room k d n z → s ≡ stack_of (ok []) →
+pub splitting_start : (t : Precision) (room : ℕ) (p o : Plane) (k : ℕ) (d : List Float) (n z : List ℕ) (s : Stack) (f : List Float) (m y : List ℕ) → Standing room k d n z → s ≡ stack_of (Ok []) →
     Splitting t room p o k d n z s f m y 0 0 0
 unfolding split_on
 splitting_start t room p o k d n z s f m y h e =
@@ -152,8 +148,8 @@ splitting_start t room p o k d n z s f m y h e =
       };
       sound = h.lies.sound;
       many = omega (arith, h.many);
-      holds = holds room (ok []) s f m y l;
-      left = ap (λ q. onward (turn t room p o) q cs) (listed_is room (ok []) s f m y l);
+      holds = holds room (Ok []) s f m y l;
+      left = ap (λ q. onward (turn t room p o) q cs) (listed_is room (Ok []) s f m y l);
     }
 
 module _ {t : Precision} {room : ℕ} {p o : Plane} {k : ℕ} {d : List Float} {n z : List ℕ} {s : Stack} {f : List Float} {m y : List ℕ} {from j i : ℕ}
@@ -198,7 +194,7 @@ list_copied room s d n z d' n' z' h p = record {
   is = h.is;
   lies = λ cs q.
       let l = h.lies cs q in
-      let e : s ≡ stack_of (ok cs) = h.is ∙ ap stack_of q in
+      let e : s ≡ stack_of (Ok cs) = h.is ∙ ap stack_of q in
       let u = numbers room _ s d n z h in
       let a : s.faces ≡ length (cells_counts cs) = ap (λ x. x.faces) e in
       let b : s.corners ≡ all_corners 0 cs = ap (λ x. x.corners) e in
@@ -222,7 +218,7 @@ list_carried room q s d n z d' n' z' l k = subst (λ x. Listed room x s d' n' z'
 
 -- ---- the plane and its opposite
 
-module _ (room : ℕ) (s : Stack) (d : List Float) (n z : List ℕ) (h : Holds room s d n z) (v : s.verdict ≡ Fine) where
+module _ (room : ℕ) (s : Stack) (d : List Float) (n z : List ℕ) (h : Holds room s d n z) (v : s.verdict ≡ Ok tt) where
   pub list_stands : Standing room s.cells d n z
   unfolding stack_of
   list_stands = record { lies = h.lies _ (list_heard s d n z v); many = sym (ap (λ x. x.cells) (h.is ∙ ap stack_of (list_heard s d n z v))) }
@@ -231,15 +227,13 @@ module _ (room : ℕ) (s : Stack) (d : List Float) (n z : List ℕ) (h : Holds r
   unfolding split_plane
   turned t w q e = ap (λ x. then x (λ cs. split_plane t room cs w)) (list_heard s d n z v) ∙ ap (λ x. then x (λ o. split_on t room w o (cells_at d 0 n (take s.cells z)))) e
 
-  pub plane_made : (t : Precision) (w : Plane) (o : Planed) (back : Plane) (r : Stack) (d' : List Float) (n' z' : List ℕ) → planed o ≡ opposite_of t w → o ≡ P.Made back →
+  pub plane_made : (t : Precision) (w : Plane) (o : Outcome Plane) (back : Plane) (r : Stack) (d' : List Float) (n' z' : List ℕ) → o ≡ opposite_of t w → o ≡ Ok back →
       Listed room (split_on t room w back (cells_at d 0 n (take s.cells z))) r d' n' z' → Listed room (then (list_at s d n z) (λ cs. split_plane t room cs w)) r d' n' z'
-  unfolding planed
-  plane_made t w o back r d' n' z' e q l = subst (λ x. Listed room x r d' n' z') (sym (turned t w (ok back) (sym e ∙ ap planed q))) l
+  plane_made t w o back r d' n' z' e q l = subst (λ x. Listed room x r d' n' z') (sym (turned t w (Ok back) (sym e ∙ q))) l
 
-  pub plane_refused : (t : Precision) (w : Plane) (o : Planed) (x : Refusal) (r : Stack) → planed o ≡ opposite_of t w → o ≡ P.Refused x → r ≡ stack_of (refused x) →
+  pub plane_refused : (t : Precision) (w : Plane) (o : Outcome Plane) (x : Refusal) (r : Stack) → o ≡ opposite_of t w → o ≡ Err x → r ≡ stack_of (Err x) →
       Listed room (then (list_at s d n z) (λ cs. split_plane t room cs w)) r d n z
-  unfolding planed
-  plane_refused t w o x r e q g = subst (λ y. Listed room y r d n z) (sym (turned t w (refused x) (sym e ∙ ap planed q))) (listed_refused room x r d n z g)
+  plane_refused t w o x r e q g = subst (λ y. Listed room y r d n z) (sym (turned t w (Err x) (sym e ∙ q))) (listed_refused room x r d n z g)
 
 -- ---- the walk over planes in a slice
 

@@ -10,8 +10,8 @@ ghost use Rattle.clip.specs.Clips.{Given};
 ghost use Rattle.stack.specs.Stacks.{behind, cells_at, list_at, Listed, Holds, Places, Work};
 ghost use Rattle.splits.specs.Planes.{split_on, split_plane, split_all, planes_at, planes_floats, Standing};
 
-use refusal::Verdict;
-use space::{Plane, Planed, Precision};
+use refusal::Refusal;
+use space::{Plane, Precision};
 use stack::Stack;
 
 // The place behind a cell.
@@ -20,11 +20,9 @@ fn passed(src: &[f64], from: usize, counts: &[u64], j: usize, faces: usize) -> u
     ensures { result ≡ behind from (counts_at counts.now j faces) }
 {
     let mut o = from;
-    let mut i = 0;
-    while i < faces {
+    for i in 0..faces {
         let n = counts[j + i] as usize;
         o = o + room::PLANE + 3 * n;
-        i += 1;
     }
     o
 }
@@ -55,8 +53,7 @@ fn split_list(
     let mut s = stack::empty();
     let mut from = 0;
     let mut j = 0;
-    let mut i = 0;
-    while i < k {
+    for i in 0..k {
         let n = faces[i] as usize;
         s = split::split_cell(
             t, limit, plane, back, src, from, corners, j, n, s, dst, counts, sizes, face, cap,
@@ -64,7 +61,6 @@ fn split_list(
         );
         from = passed(src, from, corners, j, n);
         j += n;
-        i += 1;
     }
     s
 }
@@ -86,9 +82,9 @@ fn copy_list(
     let f = s.faces;
     let n = s.corners;
     let k = s.cells;
-    stack::copy_floats(src, room::PLANE * f + 3 * n, dst);
-    stack::copy_counts(corners, f, counts);
-    stack::copy_counts(faces, k, sizes);
+    stack::copy_front(src, room::PLANE * f + 3 * n, dst);
+    stack::copy_front(corners, f, counts);
+    stack::copy_front(faces, k, sizes);
 }
 
 // The list in `dst` is split by a plane and its opposite `back`; `spare`, `slots` and `seats` are lent for the parts.
@@ -146,16 +142,16 @@ fn split_plane(
 {
     let v = s.verdict;
     let k = s.cells;
-    let Verdict::Fine = v else {
+    let Ok(()) = v else {
         return s;
     };
     let o = side::opposite(plane, t);
     match o {
-        Planed::Made(back) => split_back(
+        Ok(back) => split_back(
             t, limit, plane, back, k, dst, counts, sizes, spare, slots, seats, face, cap, flat,
             order, chain,
         ),
-        Planed::Refused(e) => stack::gone(e),
+        Err(e) => stack::gone(e),
     }
 }
 
@@ -183,14 +179,12 @@ pub fn split_cells(
     let mut order = [0u64; 1024];
     let mut chain = [0u64; 2048];
     let mut s = list;
-    let mut i = 0;
-    while i < n {
+    for i in 0..n {
         let w = room::get_plane(planes, room::PLANE * i);
         s = split_plane(
             t, limit, w, s, dst, counts, sizes, spare, slots, seats, &mut face, &mut cap,
             &mut flat, &mut order, &mut chain,
         );
-        i += 1;
     }
     s
 }
@@ -209,12 +203,10 @@ pub fn planes_of(
     ensures { planes.new ≡ sets planes.old (plane_size * k) (planes_floats (cell_at src.now from (counts_at corners.now j faces))) }
 {
     let mut o = from;
-    let mut i = 0;
-    while i < faces {
+    for i in 0..faces {
         let n = corners[j + i] as usize;
         let w = room::get_plane(src, o);
         room::put_plane(planes, room::PLANE * k + room::PLANE * i, w);
         o = o + room::PLANE + 3 * n;
-        i += 1;
     }
 }

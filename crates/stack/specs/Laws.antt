@@ -1,11 +1,10 @@
 -- Laws of lists of cells in slices: what was stored is read back, one cell more lengthens the list, and it stays within bounds.
-use Rattle.std.specs.Prelude.{◌≡◌, refl, Bool, true, false, ◌||◌, List, [], ◌∷◌, ◌++◌, ℕ, suc, ◌+◌, ◌*◌, ◌≤◌, ◌<◌, length, take, drop, set, get_or, ltb, Float}
+use Rattle.std.specs.Prelude.{◌≡◌, refl, Bool, true, false, ◌||◌, List, [], ◌∷◌, ◌++◌, ℕ, suc, ◌+◌, ◌*◌, ◌≤◌, ◌<◌, length, take, drop, set, get_or, ltb, Float, Ok, Err}
 use Rattle.std.proofs.Common.{sym, ap, ◌∙◌, subst, append_assoc, append-nil, arith, add-one, length-append, length-set, take_at, drop_at, take-suc, length-take-le, ltb-true, ltb-false, lt-ltb, le-ltb}
 use Rattle.std.proofs.lemmas.List.Edits.{sets, sets-eq}
 use Rattle.std.proofs.lemmas.Bool.{lt-leb}
 use Rattle.refusal.specs.declared.Refusal.{Refusal}
-use Rattle.refusal.specs.declared.Verdict.TheVariants.{Fine}
-use Rattle.refusal.specs.Outcome.{Outcome, ok, refused, then, unless, walk, heard}
+use Rattle.refusal.specs.Outcome.{Outcome, then, unless, walk, heard}
 use Rattle.refusal.specs.Laws.{same_ok, never_ok}
 use Rattle.space.specs.Shapes.{Face, Cell, corners, all_corners}
 use Rattle.polygon.specs.Members.{All}
@@ -104,16 +103,16 @@ cells_stored room cs d n z l =
     ∙ cells_back [] cs l.floats.tail 0 l.counts.tail refl
 
 -- where the verdict is fine the list is what is read
-pub list_heard : (s : Stack) (d : List Float) (n z : List ℕ) → s.verdict ≡ Fine → list_at s d n z ≡ ok (cells_at d 0 n (take s.cells z))
+pub list_heard : (s : Stack) (d : List Float) (n z : List ℕ) → s.verdict ≡ Ok tt → list_at s d n z ≡ Ok (cells_at d 0 n (take s.cells z))
 unfolding list_at heard
 list_heard s d n z v = ap (λ x. heard x (cells_at d 0 n (take s.cells z))) v
 
 -- the slices hold the list that the stack tells
 pub listed_is : (room : ℕ) (o : Outcome (List Cell)) (s : Stack) (d : List Float) (n z : List ℕ) → Listed room o s d n z → list_at s d n z ≡ o
 unfolding list_at heard stack_of
-listed_is room (ok cs) s d n z l =
-    ap (λ x. heard x.verdict (cells_at d 0 n (take x.cells z))) l.is ∙ ap ok (cells_stored room cs d n z (l.lies cs refl))
-listed_is room (refused r) s d n z l = ap (λ x. heard x.verdict (cells_at d 0 n (take x.cells z))) l.is
+listed_is room (Ok cs) s d n z l =
+    ap (λ x. heard x.verdict (cells_at d 0 n (take x.cells z))) l.is ∙ ap Ok (cells_stored room cs d n z (l.lies cs refl))
+listed_is room (Err r) s d n z l = ap (λ x. heard x.verdict (cells_at d 0 n (take x.cells z))) l.is
 
 pub holds : (room : ℕ) (o : Outcome (List Cell)) (s : Stack) (d : List Float) (n z : List ℕ) → Listed room o s d n z → Holds room s d n z
 holds room o s d n z l = subst (λ x. Listed room x s d n z) (sym (listed_is room o s d n z l)) l
@@ -127,13 +126,13 @@ pub record Numbers (room : ℕ) (s : Stack) : Type 0 where
 
 pub numbers : (room : ℕ) (o : Outcome (List Cell)) (s : Stack) (d : List Float) (n z : List ℕ) → Listed room o s d n z → Numbers room s
 unfolding stack_of
-numbers room (ok cs) s d n z l =
+numbers room (Ok cs) s d n z l =
     let h = l.lies cs refl in
     subst (Numbers room) (sym l.is) (record { fit = h.fit; wide = sound_corners cs h.sound; some = sound_faces cs h.sound })
-numbers room (refused r) s d n z l = subst (Numbers room) (sym l.is) (record { fit = omega arith; wide = omega arith; some = omega arith })
+numbers room (Err r) s d n z l = subst (Numbers room) (sym l.is) (record { fit = omega arith; wide = omega arith; some = omega arith })
 
 -- an empty list stands anywhere
-pub listed_none : (room : ℕ) (s : Stack) (d : List Float) (n z : List ℕ) → s ≡ stack_of (ok []) → Listed room (ok []) s d n z
+pub listed_none : (room : ℕ) (s : Stack) (d : List Float) (n z : List ℕ) → s ≡ stack_of (Ok []) → Listed room (Ok []) s d n z
 unfolding cells_floats cells_counts cells_sizes all_corners All
 listed_none room s d n z e = record {
   is = e;
@@ -146,7 +145,7 @@ listed_none room s d n z e = record {
   });
 }
 
-pub listed_refused : (room : ℕ) (r : Refusal) (s : Stack) (d : List Float) (n z : List ℕ) → s ≡ stack_of (refused r) → Listed room (refused r) s d n z
+pub listed_refused : (room : ℕ) (r : Refusal) (s : Stack) (d : List Float) (n z : List ℕ) → s ≡ stack_of (Err r) → Listed room (Err r) s d n z
 listed_refused room r s d n z e = record { is = e; lies = λ cs h. never_ok h }
 
 -- ---- one cell more behind the others
@@ -205,67 +204,49 @@ listed_same room {o} {o'} {s} {s'} {d} {d'} {n} {n'} {z} {z'} eo es ed en ez l =
 -- ---- a whole cell, added face by face
 
 add_one_face : (room : ℕ) (acc : Cell) (f : Face) → length acc < 128 → (b : Bool) → ltb room (corners 0 acc + length f.points) ≡ b →
-    add_face room acc f ≡ unless b 12 (ok (acc ++ (f ∷ [])))
+    add_face room acc f ≡ unless b 12 (Ok (acc ++ (f ∷ [])))
 unfolding add_face is_full
 add_one_face room acc f h b e =
-    ap (λ x. unless (x || ltb room (corners 0 acc + length f.points)) 12 (ok (acc ++ (f ∷ [])))) (lt-leb 128 (length acc) h)
-    ∙ ap (λ x. unless x 12 (ok (acc ++ (f ∷ [])))) e
+    ap (λ x. unless (x || ltb room (corners 0 acc + length f.points)) 12 (Ok (acc ++ (f ∷ [])))) (lt-leb 128 (length acc) h)
+    ∙ ap (λ x. unless x 12 (Ok (acc ++ (f ∷ [])))) e
 
 left_turn : (room : ℕ) (acc : Cell) (f : Face) (c : Cell) → length acc + suc (length c) ≤ 128 →
     (length (acc ++ (f ∷ [])) + length c ≤ 128 → corners 0 (acc ++ (f ∷ [])) ≤ room →
-    walk (add_face room) (acc ++ (f ∷ [])) c ≡ unless (ltb room (corners 0 (acc ++ (f ∷ [])) + corners 0 c)) 12 (ok ((acc ++ (f ∷ [])) ++ c))) →
+    walk (add_face room) (acc ++ (f ∷ [])) c ≡ unless (ltb room (corners 0 (acc ++ (f ∷ [])) + corners 0 c)) 12 (Ok ((acc ++ (f ∷ [])) ++ c))) →
     (b : Bool) → ltb room (corners 0 acc + length f.points) ≡ b →
-    then (add_face room acc f) (λ x. walk (add_face room) x c) ≡ unless (ltb room (corners 0 acc + corners 0 (f ∷ c))) 12 (ok (acc ++ (f ∷ c)))
+    then (add_face room acc f) (λ x. walk (add_face room) x c) ≡ unless (ltb room (corners 0 acc + corners 0 (f ∷ c))) 12 (Ok (acc ++ (f ∷ c)))
 left_turn room acc f c h rest true e =
     let m : room < corners 0 acc + corners 0 (f ∷ c) = omega (arith, ltb-true room (corners 0 acc + length f.points) e, corners_cons f c) in
-    ap (λ o. then o (λ x. walk (add_face room) x c)) (add_one_face room acc f (omega arith) true e) ∙ ap (λ b. unless b 12 (ok (acc ++ (f ∷ c)))) (sym (lt-ltb room (corners 0 acc + corners 0 (f ∷ c)) m))
+    ap (λ o. then o (λ x. walk (add_face room) x c)) (add_one_face room acc f (omega arith) true e) ∙ ap (λ b. unless b 12 (Ok (acc ++ (f ∷ c)))) (sym (lt-ltb room (corners 0 acc + corners 0 (f ∷ c)) m))
 left_turn room acc f c h rest false e =
     let m : corners 0 (acc ++ (f ∷ [])) ≤ room = omega (arith, ltb-false room (corners 0 acc + length f.points) e, corners_snoc acc f) in
     let k : length (acc ++ (f ∷ [])) + length c ≤ 128 = omega (arith, length-append acc (f ∷ [])) in
     let q : corners 0 (acc ++ (f ∷ [])) + corners 0 c ≡ corners 0 acc + corners 0 (f ∷ c) = omega (arith, corners_snoc acc f, corners_cons f c) in
     ap (λ o. then o (λ x. walk (add_face room) x c)) (add_one_face room acc f (omega arith) false e)
     ∙ rest k m
-    ∙ ap (λ x. unless (ltb room x) 12 (ok ((acc ++ (f ∷ [])) ++ c))) q
-    ∙ ap (λ x. unless (ltb room (corners 0 acc + corners 0 (f ∷ c))) 12 (ok x)) (append_assoc acc (f ∷ []) c)
+    ∙ ap (λ x. unless (ltb room x) 12 (Ok ((acc ++ (f ∷ [])) ++ c))) q
+    ∙ ap (λ x. unless (ltb room (corners 0 acc + corners 0 (f ∷ c))) 12 (Ok x)) (append_assoc acc (f ∷ []) c)
 
 -- a cell that has no more than 128 faces is added where its corners fit
 left_from : (room : ℕ) (acc c : Cell) → length acc + length c ≤ 128 → corners 0 acc ≤ room →
-    walk (add_face room) acc c ≡ unless (ltb room (corners 0 acc + corners 0 c)) 12 (ok (acc ++ c))
+    walk (add_face room) acc c ≡ unless (ltb room (corners 0 acc + corners 0 c)) 12 (Ok (acc ++ c))
 unfolding walk
 left_from room acc [] h g =
-    ap (λ x. ok x) (sym (append-nil acc)) ∙ ap (λ b. unless b 12 (ok (acc ++ []))) (sym (le-ltb room (corners 0 acc + corners 0 []) (omega (arith, corners_none))))
+    ap (λ x. Ok x) (sym (append-nil acc)) ∙ ap (λ b. unless b 12 (Ok (acc ++ []))) (sym (le-ltb room (corners 0 acc + corners 0 []) (omega (arith, corners_none))))
 left_from room acc (f ∷ c) h g =
     left_turn room acc f c (omega arith) (λ k m. left_from room (acc ++ (f ∷ [])) c k m) (ltb room (corners 0 acc + length f.points)) refl
 
-pub left_whole : (room : ℕ) (c : Cell) → length c ≤ 128 → left_cell room c ≡ unless (ltb room (corners 0 c)) 12 (ok c)
+pub left_whole : (room : ℕ) (c : Cell) → length c ≤ 128 → left_cell room c ≡ unless (ltb room (corners 0 c)) 12 (Ok c)
 unfolding left_cell
 left_whole room c h =
-    left_from room [] c (omega arith) (omega (arith, corners_none)) ∙ ap (λ x. unless (ltb room x) 12 (ok c)) (omega (arith, corners_none))
+    left_from room [] c (omega arith) (omega (arith, corners_none)) ∙ ap (λ x. unless (ltb room x) 12 (Ok c)) (omega (arith, corners_none))
 
 -- ---- a copy from the front
 
-pub record Copied {A : Type 0} (d₀ s : List A) (n : ℕ) (d : List A) (i : ℕ) : Type 0 where
-  pub upto : i ≤ n
-  pub size : length d ≡ length d₀
-  pub is : d ≡ sets d₀ 0 (take i s)
-
-pub copied_start : {A : Type 0} (d s : List A) (n : ℕ) → Copied d s n d 0
-copied_start d s n = record { upto = omega arith; size = refl; is = refl }
-
-pub copied_step : {A : Type 0} (d₀ s : List A) (n : ℕ) (d : List A) (i : ℕ) (v : A) → n ≤ length s → i < n → Copied d₀ s n d i → Copied d₀ s n (set d i (get_or s i v)) (i + 1)
-copied_step d₀ s n d i v h k c =
-    let e : 0 + length (take i s) ≡ i = omega (arith, length-take-le i s (omega arith)) in
-    record {
-      upto = omega arith;
-      size = length-set d i (get_or s i v) ∙ c.size;
-      is = ap (λ x. set x i (get_or s i v)) c.is
-          ∙ ap (λ k. set (sets d₀ 0 (take i s)) k (get_or s i v)) (sym e)
-          ∙ sets_append d₀ 0 (take i s) (get_or s i v ∷ [])
-          ∙ ap (sets d₀ 0) (sym (take-suc s i v (omega arith)) ∙ ap (λ k. take k s) (sym (add-one i)));
-    }
-
-pub copied_end : {A : Type 0} (d₀ s : List A) (n : ℕ) (d : List A) (i : ℕ) → n ≤ i → Copied d₀ s n d i → d ≡ sets d₀ 0 (take n s)
-copied_end d₀ s n d i h c = let e : i ≡ n = omega (arith, c.upto) in c.is ∙ ap (λ k. sets d₀ 0 (take k s)) e
+pub copied_front : {A : Type 0} (d s : List A) (n : ℕ) → n ≤ length s → n ≤ length d → take n s ++ drop n d ≡ sets d 0 (take n s)
+copied_front d s n h k =
+    let e : 0 + length (take n s) ≡ n = omega (arith, length-take-le n s h) in
+    sym (sets-eq (take n s) d 0 (omega (arith, e)) ∙ ap (λ i. take n s ++ drop i d) e)
 
 -- ---- slices that are as long as others serve as well
 

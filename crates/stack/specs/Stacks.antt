@@ -1,16 +1,13 @@
 -- A list of cells in three lent slices, and its room (12). Definitions only.
-use Rattle.std.specs.Prelude.{◌≡◌, Bool, true, false, List, [], ◌∷◌, ◌++◌, ℕ, ◌+◌, ◌-◌, ◌*◌, ◌≤◌, ◌<◌, length, take, drop, set, ltb, Float}
-use Rattle.refusal.specs.declared.Verdict.TheVariants.{Fine, Refused}
-use Rattle.refusal.specs.Outcome.{Outcome, ok, refused, refusal_of, then, unless, heard}
+use Rattle.std.specs.Prelude.{◌≡◌, Bool, true, false, List, [], ◌∷◌, ◌++◌, ℕ, ◌+◌, ◌-◌, ◌*◌, ◌≤◌, ◌<◌, length, take, drop, set, ltb, Float, Ok, Err, Some, None}
+use Rattle.refusal.specs.Outcome.{Outcome, refusal_of, then, unless, heard}
 use Rattle.space.specs.declared.Plane.{Plane}
 use Rattle.space.specs.declared.Precision.{Precision}
 use Rattle.space.specs.Shapes.{Cell, Part, nothing, part, corners, all_corners}
 use Rattle.polygon.specs.Members.{All}
 use Rattle.room.specs.Rooms.{cell_floats, cell_counts, cell_at, Small}
-use Rattle.clip.specs.declared.Clipped.{Clipped}
-use Rattle.clip.specs.declared.Clipped.TheVariants as C
 use Rattle.clip.specs.Cuts.{clip}
-use Rattle.clip.specs.Clips.{Wide, Hulls}
+use Rattle.clip.specs.Clips.{Clipped, Wide, Hulls}
 use Rattle.stack.specs.declared.Stack.{Stack}
 
 -- ---- how a list of cells lies in memory
@@ -42,10 +39,10 @@ cells_at s at ns (m ∷ ms) = cell_at s at (take m ns) ∷ cells_at s (behind at
 
 -- 01, "Room": 12 where the list of cells would get more corners than the room, counted as each cell is added
 unfoldable pub add_cell : ℕ → List Cell → Cell → Outcome (List Cell)
-add_cell room cs c = unless (ltb room (all_corners (corners 0 c) cs)) 12 (ok (cs ++ (c ∷ [])))
+add_cell room cs c = unless (ltb room (all_corners (corners 0 c) cs)) 12 (Ok (cs ++ (c ∷ [])))
 
 unfoldable pub add_part : ℕ → List Cell → Part → Outcome (List Cell)
-add_part room cs nothing = ok cs
+add_part room cs nothing = Ok cs
 add_part room cs (part c) = add_cell room cs c
 
 -- the part of a cell below a plane joins the list
@@ -56,8 +53,8 @@ add_cut t room w c cs = then (clip t room w c) (add_part room cs)
 
 -- how many cells, faces and corners the list has; a refusal has none
 unfoldable pub stack_of : Outcome (List Cell) → Stack
-stack_of (ok cs) = record { verdict = Fine; cells = length cs; faces = length (cells_counts cs); corners = all_corners 0 cs }
-stack_of (refused r) = record { verdict = Refused r; cells = 0; faces = 0; corners = 0 }
+stack_of (Ok cs) = record { verdict = Ok tt; cells = length cs; faces = length (cells_counts cs); corners = all_corners 0 cs }
+stack_of (Err r) = record { verdict = Err r; cells = 0; faces = 0; corners = 0 }
 
 -- the list that the slices hold
 unfoldable pub list_at : Stack → List Float → List ℕ → List ℕ → Outcome (List Cell)
@@ -85,7 +82,7 @@ pub record Lies (room : ℕ) (cs : List Cell) (d : List Float) (n z : List ℕ) 
 -- a stack tells an outcome, and an answer stands in the slices; after a refusal they are free
 pub record Listed (room : ℕ) (o : Outcome (List Cell)) (s : Stack) (d : List Float) (n z : List ℕ) : Type 0 where
   pub is : s ≡ stack_of o
-  pub lies : (cs : List Cell) → o ≡ ok cs → Lies room cs d n z
+  pub lies : (cs : List Cell) → o ≡ Ok cs → Lies room cs d n z
 
 -- the slices hold what the stack says
 abbrev pub Holds : ℕ → Stack → List Float → List ℕ → List ℕ → Type 0
@@ -109,26 +106,26 @@ unfoldable pub is_over : ℕ → ℕ → ℕ → Bool
 is_over room held n = ltb (room - held) n
 
 unfoldable pub pushed : Bool → Stack → ℕ → ℕ → Stack
-pushed true s faces n = stack_of (refused (refusal_of 12))
-pushed false s faces n = record { verdict = Fine; cells = s.cells + 1; faces = s.faces + faces; corners = s.corners + n }
+pushed true s faces n = stack_of (Err (refusal_of 12))
+pushed false s faces n = record { verdict = Ok tt; cells = s.cells + 1; faces = s.faces + faces; corners = s.corners + n }
 
 unfoldable pub seated : Bool → Stack → ℕ → List ℕ → List ℕ
 seated true s faces z = z
 seated false s faces z = set z s.cells faces
 
 -- what a cut answers joins the list
-unfoldable pub joined : ℕ → Stack → Clipped → Stack
-joined room s C.Nothing = s
-joined room s (C.Part faces n) = pushed (is_over room s.corners n) s faces n
-joined room s (C.Refused r) = stack_of (refused r)
+unfoldable pub joined : ℕ → Stack → Outcome Clipped → Stack
+joined room s (Ok None) = s
+joined room s (Ok (Some x)) = pushed (is_over room s.corners x.corners) s x.faces x.corners
+joined room s (Err r) = stack_of (Err r)
 
-unfoldable pub joined_sizes : ℕ → Stack → Clipped → List ℕ → List ℕ
-joined_sizes room s C.Nothing z = z
-joined_sizes room s (C.Part faces n) z = seated (is_over room s.corners n) s faces z
-joined_sizes room s (C.Refused r) z = z
+unfoldable pub joined_sizes : ℕ → Stack → Outcome Clipped → List ℕ → List ℕ
+joined_sizes room s (Ok None) z = z
+joined_sizes room s (Ok (Some x)) z = seated (is_over room s.corners x.corners) s x.faces z
+joined_sizes room s (Err r) z = z
 
 -- three corners or more for each face
-unfoldable pub Broad : Clipped → Type 0
-Broad C.Nothing = Unit {0}
-Broad (C.Part faces n) = 3 * faces ≤ n
-Broad (C.Refused r) = Unit {0}
+unfoldable pub Broad : Outcome Clipped → Type 0
+Broad (Ok None) = Unit {0}
+Broad (Ok (Some x)) = 3 * x.faces ≤ x.corners
+Broad (Err r) = Unit {0}

@@ -2,31 +2,31 @@
 
 // A list of cells in three lent slices: the floats of the cells one behind another, the numbers of corners of their faces, and
 // the number of faces of each cell. What stands behind the list, and everything after a refusal, is work memory.
-ghost use Rattle.std.specs.Prelude.{◌≡◌, [], ◌+◌, ◌*◌, ◌≤◌, ◌<◌, length, take};
+ghost use Rattle.std.specs.Prelude.{◌≡◌, [], ◌+◌, ◌*◌, ◌≤◌, ◌<◌, length, take, Ok, Err};
 ghost use Rattle.std.proofs.lemmas.List.Edits.{sets};
-ghost use Rattle.refusal.specs.Outcome.{ok, refused, then};
+ghost use Rattle.refusal.specs.Outcome.{then};
 ghost use Rattle.room.specs.Rooms.{cell_at, counts_at};
 ghost use Rattle.clip.specs.Clips.{Given, Wide};
 ghost use Rattle.stack.specs.Stacks.{add_cell, add_cut, stack_of, list_at, Listed, Holds, Places, Work, is_over, pushed, seated, joined, joined_sizes, Broad};
 
-use clip::Clipped;
-use refusal::{Refusal, Verdict};
+use cell::Kept;
+use refusal::Refusal;
 use space::{Plane, Precision};
 
 // How many cells, faces and corners the list has.
 #[derive(Clone, Copy)]
 pub struct Stack {
-    pub verdict: Verdict,
+    pub verdict: Result<(), Refusal>,
     pub cells: usize,
     pub faces: usize,
     pub corners: usize,
 }
 
 pub fn empty() -> Stack
-    ensures { result ≡ stack_of (ok []) }
+    ensures { result ≡ stack_of (Ok []) }
 {
     Stack {
-        verdict: Verdict::Fine,
+        verdict: Ok(()),
         cells: 0,
         faces: 0,
         corners: 0,
@@ -34,10 +34,10 @@ pub fn empty() -> Stack
 }
 
 pub fn gone(e: Refusal) -> Stack
-    ensures { result ≡ stack_of (refused e) }
+    ensures { result ≡ stack_of (Err e) }
 {
     Stack {
-        verdict: Verdict::Refused(e),
+        verdict: Err(e),
         cells: 0,
         faces: 0,
         corners: 0,
@@ -64,7 +64,7 @@ fn push(limit: usize, faces: usize, n: usize, s: Stack, cells: &mut [u64]) -> St
     }
     cells[k] = faces as u64;
     Stack {
-        verdict: Verdict::Fine,
+        verdict: Ok(()),
         cells: k + 1,
         faces: s.faces + faces,
         corners: held + n,
@@ -72,15 +72,17 @@ fn push(limit: usize, faces: usize, n: usize, s: Stack, cells: &mut [u64]) -> St
 }
 
 // What a cut answers joins the list.
-fn join(limit: usize, p: Clipped, s: Stack, cells: &mut [u64]) -> Stack
+fn join(limit: usize, p: Result<Option<Kept>, Refusal>, s: Stack, cells: &mut [u64]) -> Stack
     requires { (s.corners ≤ limit) × Broad p × (3 * s.faces ≤ s.corners) × (s.cells < length cells.old) }
     ensures value { result ≡ joined limit s p }
     ensures cells_after { cells.new ≡ joined_sizes limit s p cells.old }
 {
     match p {
-        Clipped::Nothing => s,
-        Clipped::Part(f, n) => push(limit, f, n, s, cells),
-        Clipped::Refused(e) => gone(e),
+        Ok(part) => match part {
+            None => s,
+            Some(kept) => push(limit, kept.faces, kept.corners, s, cells),
+        },
+        Err(e) => gone(e),
     }
 }
 
@@ -111,7 +113,7 @@ pub fn add_part(
     let v = s.verdict;
     let k = s.faces;
     let held = s.corners;
-    let Verdict::Fine = v else {
+    let Ok(()) = v else {
         return s;
     };
     let at = room::PLANE * k + 3 * held;
@@ -142,36 +144,21 @@ pub fn add_cell(
     let v = s.verdict;
     let k = s.faces;
     let held = s.corners;
-    let Verdict::Fine = v else {
+    let Ok(()) = v else {
         return s;
     };
     let at = room::PLANE * k + 3 * held;
     let r = cell::left_cell(limit, src, from, sizes, j, faces, dst, at, counts, k);
-    let w = r.verdict;
-    match w {
-        Verdict::Fine => push(limit, r.faces, r.corners, s, cells),
-        Verdict::Refused(e) => gone(e),
+    match r {
+        Ok(kept) => push(limit, kept.faces, kept.corners, s, cells),
+        Err(e) => gone(e),
     }
 }
 
-pub fn copy_floats(src: &[f64], n: usize, dst: &mut [f64])
+// The first n of one slice at the front of another.
+pub fn copy_front<T: Copy>(src: &[T], n: usize, dst: &mut [T])
     requires { (n ≤ length src.now) × (n ≤ length dst.old) }
     ensures { dst.new ≡ sets dst.old 0 (take n src.now) }
 {
-    let mut i = 0;
-    while i < n {
-        dst[i] = src[i];
-        i += 1;
-    }
-}
-
-pub fn copy_counts(src: &[u64], n: usize, dst: &mut [u64])
-    requires { (n ≤ length src.now) × (n ≤ length dst.old) }
-    ensures { dst.new ≡ sets dst.old 0 (take n src.now) }
-{
-    let mut i = 0;
-    while i < n {
-        dst[i] = src[i];
-        i += 1;
-    }
+    dst[..n].copy_from_slice(&src[..n]);
 }

@@ -1,6 +1,6 @@
 -- Where each corner's reverse edge stands once, each edge stands once: it is the reverse of its reverse.
 use Rattle.std.specs.Prelude.{◌≡◌, refl, Bool, true, false, List, [], ◌∷◌, ℕ, ltb}
-use Rattle.std.proofs.Common.{sym, ap, ◌∙◌, inl, inr, arith}
+use Rattle.std.proofs.Common.{sym, ◌∙◌, inl, inr, arith}
 use Rattle.std.proofs.Math.Path.{ap₂}
 use Rattle.std.proofs.Math.Bool.{◌&&◌}
 use borrow.Author.Tests.{eqb-true}

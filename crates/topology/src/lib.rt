@@ -37,14 +37,12 @@ fn tally(places: &[u64], nexts: &[u64], faces: &[u64], c: usize, f: u64, x: u64,
 {
     let mut alone = 0;
     let mut reverse = 0;
-    let mut i = 0;
-    while i < c {
+    for i in 0..c {
         let p = places[i];
         let q = nexts[i];
         let g = faces[i];
         alone = one_more(alone, (g == f) & (p == x));
         reverse = one_more(reverse, (p == y) & (q == x));
-        i += 1;
     }
     Counts { alone, reverse }
 }
@@ -68,10 +66,8 @@ fn all_fit(m: usize, places: &[u64], nexts: &[u64], faces: &[u64], c: usize) -> 
     ensures { result ≡ all (fits m (corners_at places.now nexts.now faces.now 0 c)) true (corners_at places.now nexts.now faces.now 0 c) }
 {
     let mut fine = true;
-    let mut i = 0;
-    while i < c {
+    for i in 0..c {
         fine = fine & is_fit(m, places, nexts, faces, c, i);
-        i += 1;
     }
     fine
 }
@@ -82,10 +78,8 @@ fn all_used(places: &[u64], c: usize, m: usize) -> bool
     ensures { result ≡ all (λ x. has x false (counts_at places.now 0 c)) true (up_from 0 m) }
 {
     let mut fine = true;
-    let mut x = 0;
-    while x < m {
+    for x in 0..m {
         fine = fine & solids::is_corner(places, 0, c, x);
-        x += 1;
     }
     fine
 }
@@ -97,9 +91,7 @@ fn face_across(places: &[u64], nexts: &[u64], faces: &[u64], c: usize, i: usize)
 {
     let a = nexts[i];
     let b = places[i];
-    let mut q = c;
-    while 0 < q {
-        q -= 1;
+    for q in (0..c).rev() {
         if (places[q] == a) & (nexts[q] == b) {
             return faces[q];
         }
@@ -112,11 +104,9 @@ fn put_joins(places: &[u64], nexts: &[u64], faces: &[u64], c: usize, ends: &mut 
     requires { (c ≤ length places.now) × (c ≤ length nexts.now) × (c ≤ length faces.now) × (2 * c ≤ length ends.old) }
     ensures { take (2 * c) ends.new ≡ joins (corners_at places.now nexts.now faces.now 0 c) (corners_at places.now nexts.now faces.now 0 c) }
 {
-    let mut i = 0;
-    while i < c {
+    for i in 0..c {
         ends[2 * i] = faces[i];
         ends[2 * i + 1] = face_across(places, nexts, faces, c, i);
-        i += 1;
     }
 }
 
@@ -133,12 +123,10 @@ fn put_corners(places: &[u64], at: usize, n: usize, f: usize, nexts: &mut [u64],
     requires { (at + n ≤ length places.now) × (at + n ≤ length nexts.old) × (at + n ≤ length faces.old) }
     ensures { corners_at places.now nexts.new faces.new 0 (at + n) ≡ corners_at places.now nexts.old faces.old 0 at ++ map (corner_of f) (cyclic (counts_at places.now at n)) }
 {
-    let mut i = 0;
-    while i < n {
+    for i in 0..n {
         let o = after(i, n);
         nexts[at + i] = places[at + o];
         faces[at + i] = f as u64;
-        i += 1;
     }
 }
 
@@ -155,12 +143,10 @@ fn lay_corners(
     ensures upper_bound { result ≤ length places.now }
 {
     let mut at = 0;
-    let mut j = 0;
-    while j < n {
+    for j in 0..n {
         let c = counts[j] as usize;
         put_corners(places, at, c, j, nexts, faces);
         at += c;
-        j += 1;
     }
     at
 }

@@ -1,5 +1,5 @@
 -- What near means: two points called Near are nearer to each other than local, two called Apart farther, in exact arithmetic.
-use Rattle.std.specs.Prelude.{◌≡◌, refl, ℕ, ◌^◌, Float}
+use Rattle.std.specs.Prelude.{◌≡◌, refl, ℕ, ◌^◌, Float, Ok}
 use Rattle.std.proofs.Common.{arith}
 use Rattle.float.proofs.Laws.{Held}
 use Rattle.interval.specs.declared.Interval.{Interval}
@@ -54,14 +54,14 @@ module _ (t : Precision) (a b : Point3) where
       squared_ordered (sqr_ordered (point_i t.local)) (squared_sure A B) (sqr_sure (point_i t.local) (units t.local) 1 (point_sure t.local L))
 
 -- ---- the two answers
-called_apart : (s : Sign) → closeness_of s ≡ Apart → s ≡ S.Positive
+called_apart : (s : Sign) → closeness_of s ≡ Ok Apart → s ≡ S.Positive
 unfolding closeness_of
 called_apart S.Positive e = refl
 called_apart S.Negative e = let q : ◌≡◌ {A = ℕ} 0 1 = cc in absurd (omega arith)
 called_apart S.Zero e = let q : ◌≡◌ {A = ℕ} 0 1 = cc in absurd (omega arith)
 called_apart S.Unknown e = let q : ◌≡◌ {A = ℕ} 0 1 = cc in absurd (omega arith)
 
-called_near : (s : Sign) → (s ≡ S.Zero → ⊥) → closeness_of s ≡ Near → s ≡ S.Negative
+called_near : (s : Sign) → (s ≡ S.Zero → ⊥) → closeness_of s ≡ Ok Near → s ≡ S.Negative
 unfolding closeness_of
 called_near S.Positive n e = let q : ◌≡◌ {A = ℕ} 0 1 = cc in absurd (omega arith)
 called_near S.Negative n e = refl
@@ -72,14 +72,14 @@ module _ (t : Precision) (a b : Point3) (L : Held t.local) (A : Held3 a) (B : He
   sure : Sure (excess_i t a b) (difference (squared_distance a b) (square (units t.local))) (2 ^ 1074)
   sure = excess_sure t a b L A B
 
-  pub nearer : near_of t a b ≡ Near → Nearer t.local a b
+  pub nearer : near_of t a b ≡ Ok Near → Nearer t.local a b
   unfolding near_of
   nearer e =
       let z = sub_never_zero (squared_i a b) (sqr_i (point_i t.local)) (squared_ordered t a b) (sqr_ordered (point_i t.local)) F in
       let s = called_near (sign_of (excess_i t a b)) z e in
       omega (arith, holds_negative (excess_i t a b) _ _ (2 ^ 1074) (sure_finite sure F) (sure.holds F) s)
 
-  pub farther : near_of t a b ≡ Apart → Farther t.local a b
+  pub farther : near_of t a b ≡ Ok Apart → Farther t.local a b
   unfolding near_of
   farther e =
       let s = called_apart (sign_of (excess_i t a b)) e in

@@ -1,5 +1,5 @@
 -- What the tube means: the side of a point, as a fact about space.
-use Rattle.std.specs.Prelude.{◌≡◌, ℕ, ◌+◌, ◌*◌, ◌^◌, ◌≤◌, ◌<◌, T, Float}
+use Rattle.std.specs.Prelude.{◌≡◌, ℕ, ◌+◌, ◌*◌, ◌^◌, ◌≤◌, ◌<◌, T, Float, Ok}
 use Rattle.std.proofs.Common.{sym, subst, mul-le-mul_right, arith, pow_pos}
 use Rattle.std.specs.Float.{binary64}
 use Rattle.std.specs.Float.Ieee.{neg}
@@ -77,7 +77,7 @@ module _ (t : Precision) (w : Plane) (p : Point3) (G : Given t w p) where
   back_finite = subst T (sym (neg_finite t.local)) G.local_finite
 
   -- a point in the tube has a distance with finite ends
-  pub zero_bounded : side_of t w p ≡ Zero → Bounded (distance_of w p)
+  pub zero_bounded : side_of t w p ≡ Ok Zero → Bounded (distance_of w p)
   zero_bounded e =
       let q = side_zero t w p e in
       let o = distance_ordered w p in
@@ -94,7 +94,7 @@ module _ (t : Precision) (w : Plane) (p : Point3) (G : Given t w p) where
       }
 
   -- of a point that is called Zero nothing more is asked
-  pub on : side_of t w p ≡ Zero → On t.local w p
+  pub on : side_of t w p ≡ Ok Zero → On t.local w p
   on e =
       let B = zero_bounded e in
       let d = distance_of w p in
@@ -111,7 +111,7 @@ module _ (t : Precision) (w : Plane) (p : Point3) (G : Given t w p) where
             (2 ^ 1074) b (holds B).high,
       )
 
-  pub outside : Bounded (distance_of w p) → side_of t w p ≡ Positive → Outside t.local w p
+  pub outside : Bounded (distance_of w p) → side_of t w p ≡ Ok Positive → Outside t.local w p
   outside B e =
       let d = distance_of w p in
       let o = distance_ordered w p in
@@ -121,7 +121,7 @@ module _ (t : Precision) (w : Plane) (p : Point3) (G : Given t w p) where
       over_low (plus t.local) (minus t.local) (plus d.lo) (minus d.lo) (distance w p).more (distance w p).less
       (2 ^ 1074) (pow_pos 1074) u (holds B).low
 
-  pub inside : Bounded (distance_of w p) → side_of t w p ≡ Negative → Inside t.local w p
+  pub inside : Bounded (distance_of w p) → side_of t w p ≡ Ok Negative → Inside t.local w p
   inside B e =
       let d = distance_of w p in
       let o = distance_ordered w p in

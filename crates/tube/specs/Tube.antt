@@ -1,5 +1,5 @@
 -- What the tube means: the side of a point, as a fact about space.
-use Rattle.std.specs.Prelude.{◌≡◌, T}
+use Rattle.std.specs.Prelude.{◌≡◌, T, Ok}
 use Rattle.float.specs.Float.{finite}
 use Rattle.float.proofs.Laws.{Held}
 use Rattle.space.specs.declared.Point3.{Point3}
@@ -13,11 +13,11 @@ use Rattle.tube.specs.Distance.{Outside, Inside, On}
 -- it is stored, whose length is only nearly one. A refused point (7) is said nothing of.
 pub record Tube (t : Precision) (w : Plane) (p : Point3) : Type 0 where
   -- farther than local on the outside
-  pub positive : side_of t w p ≡ Positive → Outside t.local w p
+  pub positive : side_of t w p ≡ Ok Positive → Outside t.local w p
   -- farther than local on the inside
-  pub negative : side_of t w p ≡ Negative → Inside t.local w p
+  pub negative : side_of t w p ≡ Ok Negative → Inside t.local w p
   -- within local of the plane
-  pub zero : side_of t w p ≡ Zero → On t.local w p
+  pub zero : side_of t w p ≡ Ok Zero → On t.local w p
 
 -- what is given: local is finite, and all are values of the format, as every f64 of a program is
 pub record Held3 (p : Point3) : Type 0 where

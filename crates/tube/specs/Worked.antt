@@ -1,6 +1,6 @@
 -- The figures of docs/TUBE.md. P1 to P3 of document 01 in exact numbers: the plane at the origin with normal +x, the point
 -- (d,0,0), local 2 ^ -18; and near. Computed from the definitions; the sides of P1 to P3 stand in crate worked. Assumes nothing.
-use Rattle.std.specs.Prelude.{◌≡◌, refl, true, false, ◌+◌, ◌-◌, ◌*◌, ◌^◌, pos, negsuc, Float}
+use Rattle.std.specs.Prelude.{◌≡◌, refl, true, false, ◌+◌, ◌-◌, ◌*◌, ◌^◌, pos, negsuc, Float, Ok, Err}
 use Rattle.std.proofs.Common.{ltb→lt, leb→le}
 use Rattle.std.specs.Float.{fin}
 use Rattle.std.specs.Float.Ieee.{fits, is_nan, lt, le, eq, add, sub, mul, div, neg, to_bits, of_bits}
@@ -15,7 +15,7 @@ use Rattle.space.specs.declared.Precision.{Precision}
 use Rattle.space.specs.declared.Closeness.TheVariants as N
 use Rattle.space.specs.Vector.{over_v, box_of}
 use Rattle.space.specs.Near.{closeness_of, gap_i, near_of}
-use Rattle.side.specs.declared.Side.TheVariants.{Positive, Negative, Zero, Refused}
+use Rattle.side.specs.declared.Side.TheVariants.{Positive, Negative, Zero}
 use Rattle.side.specs.Sides.{distance_of, classed, side_of}
 use Rattle.tube.specs.Whole.{nought, units, opposite}
 use Rattle.tube.specs.Distance.{distance, reach, Outside, Inside, On, square, squared_distance, Nearer, Farther}
@@ -136,36 +136,36 @@ unfolding rounded
 ends_back = (refl, refl)
 
 -- ---- the sides beside those of P1 to P3: where Zero ends and Positive begins, and the other side
-pub last_zero : side_of tol wall (at (fin false (2 ^ 51 - 1) (negsuc 68))) ≡ Zero
+pub last_zero : side_of tol wall (at (fin false (2 ^ 51 - 1) (negsuc 68))) ≡ Ok Zero
 unfolding rounded
 last_zero = refl
 
-pub first_refused : side_of tol wall (at (fin false (2 ^ 53 - 3) (negsuc 70))) ≡ Refused (refusal_of 7)
+pub first_refused : side_of tol wall (at (fin false (2 ^ 53 - 3) (negsuc 70))) ≡ Err (refusal_of 7)
 unfolding rounded
 first_refused = refl
 
-pub last_refused : side_of tol wall (at (fin false (2 ^ 52 + 4) (negsuc 69))) ≡ Refused (refusal_of 7)
+pub last_refused : side_of tol wall (at (fin false (2 ^ 52 + 4) (negsuc 69))) ≡ Err (refusal_of 7)
 unfolding rounded
 last_refused = refl
 
-pub first_positive : side_of tol wall (at (fin false (2 ^ 52 + 5) (negsuc 69))) ≡ Positive
+pub first_positive : side_of tol wall (at (fin false (2 ^ 52 + 5) (negsuc 69))) ≡ Ok Positive
 unfolding rounded
 first_positive = refl
 
-pub back_negative : side_of tol wall (at back) ≡ Negative
+pub back_negative : side_of tol wall (at back) ≡ Ok Negative
 unfolding rounded
 back_negative = refl
 
 -- ---- and near
-pub half_near : near_of tol (at none) (at half) ≡ N.Near
+pub half_near : near_of tol (at none) (at half) ≡ Ok N.Near
 unfolding rounded
 half_near = refl
 
-pub local_refused : near_of tol (at none) (at local) ≡ N.Refused (refusal_of 6)
+pub local_refused : near_of tol (at none) (at local) ≡ Err (refusal_of 6)
 unfolding rounded
 local_refused = refl
 
-pub twice_apart : near_of tol (at none) (at twice) ≡ N.Apart
+pub twice_apart : near_of tol (at none) (at twice) ≡ Ok N.Apart
 unfolding rounded
 twice_apart = refl
 

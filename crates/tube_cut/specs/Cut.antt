@@ -1,10 +1,10 @@
 -- What a cut means: where the corners that it gives lie, in exact arithmetic (tube/specs/Distance).
-use Rattle.std.specs.Prelude.{◌≡◌, refl, true, false, ◌⊎◌, List, ℕ, ◌^◌, ◌≤◌, T}
+use Rattle.std.specs.Prelude.{◌≡◌, refl, true, false, ◌⊎◌, List, ℕ, ◌^◌, ◌≤◌, T, Ok, Err}
 use Rattle.std.proofs.Common.{sym, subst, inl, inr, ⊎_elim, mul-le-mul_right, arith}
 use Rattle.std.specs.Float.{binary64}
 use Rattle.std.specs.Float.Ieee.{le, of_bits}
 use Rattle.std.specs.Float.Ieee.Fits.{add-fits}
-use Rattle.refusal.specs.Outcome.{ok, walk}
+use Rattle.refusal.specs.Outcome.{Outcome, walk}
 use Rattle.refusal.specs.Laws.{then_ok}
 use Rattle.lists.specs.Walks.{cyclic}
 use Rattle.float.specs.Float.{finite}
@@ -19,7 +19,7 @@ use Rattle.space.specs.declared.Precision.{Precision}
 use Rattle.space.specs.Vector.{add_v}
 use Rattle.space.specs.Shapes.{Cell, Part, nothing, part}
 use Rattle.side.specs.declared.Side.{Side}
-use Rattle.side.specs.declared.Side.TheVariants.{Positive, Negative, Zero, Refused}
+use Rattle.side.specs.declared.Side.TheVariants.{Positive, Negative, Zero}
 use Rattle.side.specs.Sides.{distance_of, side_of}
 use Rattle.polygon.specs.Members.{All}
 use Rattle.room.specs.Laws.{all_snoc, all_map, all_both, all_in}
@@ -52,22 +52,22 @@ pub record Cuttable (t : Precision) (w : Plane) (c : Cell) : Type 0 where
   pub ends : Corners (λ q. Bounded (distance_of w q)) c
 
 -- ---- a cut that answers has a side for every corner
-noted_certain : (s s' : Signs) (d : Side) → noted s d ≡ ok s' → is_certain d ≡ true
+noted_certain : (s s' : Signs) (d : Outcome Side) → noted s d ≡ Ok s' → is_certain d ≡ true
 unfolding noted
-noted_certain s s' Positive e = refl
-noted_certain s s' Negative e = refl
-noted_certain s s' Zero e = refl
-noted_certain s s' (Refused r) e = let q : ◌≡◌ {A = ℕ} 0 1 = cc in absurd (omega arith)
+noted_certain s s' (Ok Positive) e = refl
+noted_certain s s' (Ok Negative) e = refl
+noted_certain s s' (Ok Zero) e = refl
+noted_certain s s' (Err r) e = let q : ◌≡◌ {A = ℕ} 0 1 = cc in absurd (omega arith)
 
-signs_certain : (t : Precision) (w : Plane) (c : Cell) (s : Signs) → signs_of t w c ≡ ok s → Classified t w c
+signs_certain : (t : Precision) (w : Plane) (c : Cell) (s : Signs) → signs_of t w c ≡ Ok s → Classified t w c
 unfolding signs_of sign_face sign_one
 signs_certain t w c s e =
     (walk_back (λ x. Unit {0}) _ (sign_face t w) (λ a b f g j. points f.points a b g j) c unseen s e tt).1
   where
-    points : (l : List Point3) (a b : Signs) → walk (sign_one t w) a l ≡ ok b → Unit {0} → Unit {0} × All (λ q. is_certain (side_of t w q) ≡ true) l
+    points : (l : List Point3) (a b : Signs) → walk (sign_one t w) a l ≡ Ok b → Unit {0} → Unit {0} × All (λ q. is_certain (side_of t w q) ≡ true) l
     points = walk_back (λ x. Unit {0}) _ (sign_one t w) (λ x y q k i. (tt, noted_certain x y (side_of t w q) k))
 
-clip_certain : (t : Precision) (room : ℕ) (w : Plane) (c : Cell) (p : Part) → clip t room w c ≡ ok p → Classified t w c
+clip_certain : (t : Precision) (room : ℕ) (w : Plane) (c : Cell) (p : Part) → clip t room w c ≡ Ok p → Classified t w c
 unfolding clip
 clip_certain t room w c p e =
     let g = then_ok (signs_of t w c) (λ s. clip_by t room w c s.negative s.positive) p e in
@@ -100,20 +100,20 @@ module _ (t : Precision) (w : Plane) where
     not_outside : (q : Point3) → Ready q → is_positive (side_of t w q) ≡ false → NotOutside t.local w q
     not_outside q R p = by (side_of t w q) refl R.certain p
       where
-        by : (s : Side) → side_of t w q ≡ s → is_certain s ≡ true → is_positive s ≡ false → NotOutside t.local w q
-        by Positive e k p = let z : ◌≡◌ {A = ℕ} 0 1 = cc in absurd (omega arith)
-        by Negative e k p = inside_below q (inside t w q R.given R.bounded e)
-        by Zero e k p = (on t w q R.given e).1
-        by (Refused r) e k p = let z : ◌≡◌ {A = ℕ} 0 1 = cc in absurd (omega arith)
+        by : (s : Outcome Side) → side_of t w q ≡ s → is_certain s ≡ true → is_positive s ≡ false → NotOutside t.local w q
+        by (Ok Positive) e k p = let z : ◌≡◌ {A = ℕ} 0 1 = cc in absurd (omega arith)
+        by (Ok Negative) e k p = inside_below q (inside t w q R.given R.bounded e)
+        by (Ok Zero) e k p = (on t w q R.given e).1
+        by (Err r) e k p = let z : ◌≡◌ {A = ℕ} 0 1 = cc in absurd (omega arith)
 
     not_inside : (q : Point3) → Ready q → is_negative (side_of t w q) ≡ false → NotInside t.local w q
     not_inside q R p = by (side_of t w q) refl R.certain p
       where
-        by : (s : Side) → side_of t w q ≡ s → is_certain s ≡ true → is_negative s ≡ false → NotInside t.local w q
-        by Positive e k p = outside_above q (outside t w q R.given R.bounded e)
-        by Negative e k p = let z : ◌≡◌ {A = ℕ} 0 1 = cc in absurd (omega arith)
-        by Zero e k p = (on t w q R.given e).0
-        by (Refused r) e k p = let z : ◌≡◌ {A = ℕ} 0 1 = cc in absurd (omega arith)
+        by : (s : Outcome Side) → side_of t w q ≡ s → is_certain s ≡ true → is_negative s ≡ false → NotInside t.local w q
+        by (Ok Positive) e k p = outside_above q (outside t w q R.given R.bounded e)
+        by (Ok Negative) e k p = let z : ◌≡◌ {A = ℕ} 0 1 = cc in absurd (omega arith)
+        by (Ok Zero) e k p = (on t w q R.given e).0
+        by (Err r) e k p = let z : ◌≡◌ {A = ℕ} 0 1 = cc in absurd (omega arith)
 
 -- a cut point is made of rounded sums
 between_held : (w : Plane) (a b : Point3) → Held3 (between w a b)
@@ -153,7 +153,7 @@ module _ (t : Precision) (room : ℕ) (w : Plane) (c : Cell) (G : Cuttable t w c
       }) r
 
   -- ---- the theorem: of each cell that a cut leaves
-  pub cut_means : (d : Cell) → clip t room w c ≡ ok (part d) → Cut t w c d
+  pub cut_means : (d : Cell) → clip t room w c ≡ Ok (part d) → Cut t w c d
   cut_means d e =
       let r = ready (clip_certain t room w c (part d) e) in
       ⊎_elim
@@ -174,7 +174,7 @@ module _ (t : Precision) (room : ℕ) (w : Plane) (c : Cell) (G : Cuttable t w c
       (part_of t room w c d e)
 
   -- and of a cell that it drops: no corner lies farther than local inside the plane
-  pub dropped_means : clip t room w c ≡ ok nothing → Corners (NotInside t.local w) c
+  pub dropped_means : clip t room w c ≡ Ok nothing → Corners (NotInside t.local w) c
   dropped_means e =
       let k = clip_certain t room w c nothing e in
       corners_both (Ready t w) (λ q. is_negative (side_of t w q) ≡ false) (NotInside t.local w) c (not_inside t w above)

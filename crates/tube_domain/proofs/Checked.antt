@@ -1,11 +1,11 @@
 -- Of every solid that passes the check, and of two that do, what the tube says of a face's plane and a point has no hypothesis left but that the numbers given are values of the format, as every
 -- f64 of a program is. Assumes nothing.
-use Rattle.std.specs.Prelude.{◌≡◌, Bool, length, get_or, ltb}
+use Rattle.std.specs.Prelude.{◌≡◌, Bool, length, get_or, ltb, Ok}
 use Rattle.std.proofs.Math.Path.{subst}
 use mathlib.Core.List.{List, [], ◌∷◌, ◌++◌, map}
 use Prim.Native.Nat.{ℕ, zero, suc, ◌≤◌}
 use Rattle.std.proofs.Common.{arith}
-use Rattle.refusal.specs.Outcome.{Outcome, ok, each}
+use Rattle.refusal.specs.Outcome.{Outcome, each}
 use Rattle.refusal.specs.Laws.{same_ok, then_ok, unless_ok}
 use Rattle.space.specs.declared.Point3.{Point3}
 use Rattle.space.specs.declared.Plane.{Plane}
@@ -34,7 +34,7 @@ module _ {A : Type 0} (P : A → Type 0) where
   get_all (x ∷ l) zero d a p = a.0
   get_all (x ∷ l) (suc i) d a p = get_all l i d a.1 p
 
-  each_all : {B : Type 0} (g : B → Outcome A) → ((x : B) (y : A) → g x ≡ ok y → P y) → (acc : List A) (l : List B) (r : List A) → All P acc → each g acc l ≡ ok r → All P r
+  each_all : {B : Type 0} (g : B → Outcome A) → ((x : B) (y : A) → g x ≡ Ok y → P y) → (acc : List A) (l : List B) (r : List A) → All P acc → each g acc l ≡ Ok r → All P r
   unfolding All each
   each_all g h acc [] r a e = subst (All P) (same_ok e) a
   each_all g h acc (x ∷ l) r a e =
@@ -46,11 +46,11 @@ origin_size : {k : ℕ} → Size3 k origin
 origin_size = record { x_size = zero_size; y_size = zero_size; z_size = zero_size }
 
 module _ {t : Precision} (F : Fair t) where
-  face_drawn : (ps : List Point3) → All (Size3 20) ps → (f : List ℕ) (x : Face) → face_of t ps f ≡ ok x → Drawn 20 x
+  face_drawn : (ps : List Point3) → All (Size3 20) ps → (f : List ℕ) (x : Face) → face_of t ps f ≡ Ok x → Drawn 20 x
   unfolding face_of plane_for
   face_drawn ps a f x e =
       let at : (i : ℕ) → Size3 20 (point_of ps i) = λ i. get_all (Size3 20) ps i origin a origin_size in
-      let w = then_ok (plane_for t ps f) (λ w. ok (record { plane = w; points = map (point_of ps) f })) x e in
+      let w = then_ok (plane_for t ps f) (λ w. Ok (record { plane = w; points = map (point_of ps) f })) x e in
       let u = unless_ok (ltb (length f) 3) 5 (face_plane t (point_of ps (get_or f 0 0)) (point_of ps (get_or f 1 0)) (point_of ps (get_or f 2 0))) w.0 w.1 in
       subst (Drawn 20) (same_ok w.2)
       (record {
@@ -58,7 +58,7 @@ module _ {t : Precision} (F : Fair t) where
         points = map_all (Size3 20) (point_of ps) at f;
       })
 
-  module _ (counted : Bool) (s : Solid) (c : Cell) (h : All Held3 s.points) (e : check counted t s ≡ ok c) where
+  module _ (counted : Bool) (s : Solid) (c : Cell) (h : All Held3 s.points) (e : check counted t s ≡ Ok c) where
     pub checked_faces : All (Drawn 20) c
     unfolding cell_of
     checked_faces = each_all (Drawn 20) (face_of t s.points) (face_drawn s.points (checked_points F counted s c h e)) [] s.faces c (all_none _) (check_passed counted t s c e).1
@@ -71,11 +71,11 @@ module _ {t : Precision} (F : Fair t) where
   certain_all c a ps b = all_map _ _ c (λ f x. all_map _ _ ps (λ p y. certain (omega arith) f.plane p x.plane y) b) a
 
   -- of one solid that passes: each face's plane and each point
-  pub checked_tube : (counted : Bool) (s : Solid) (c : Cell) → All Held3 s.points → check counted t s ≡ ok c → All (λ f. All (Certain t f.plane) s.points) c
+  pub checked_tube : (counted : Bool) (s : Solid) (c : Cell) → All Held3 s.points → check counted t s ≡ Ok c → All (λ f. All (Certain t f.plane) s.points) c
   checked_tube counted s c h e = certain_all c (checked_faces F counted s c h e) s.points (checked_points F counted s c h e)
 
   -- of two: each plane of the first, and each corner of the second's cell
-  pub checked_tubes : (counted given : Bool) (s r : Solid) (c d : Cell) → All Held3 s.points → All Held3 r.points → check counted t s ≡ ok c → check given t r ≡ ok d →
+  pub checked_tubes : (counted given : Bool) (s r : Solid) (c d : Cell) → All Held3 s.points → All Held3 r.points → check counted t s ≡ Ok c → check given t r ≡ Ok d →
       All (λ f. All (λ g. All (Certain t f.plane) g.points) d) c
   checked_tubes counted given s r c d h k e i =
       all_map _ _ c (λ f x. all_map _ _ d (λ g y. all_map _ _ g.points (λ p z. certain (omega arith) f.plane p x.plane z) y.points) (checked_faces F given r d k i)) (checked_faces F counted s c h e)

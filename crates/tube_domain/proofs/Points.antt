@@ -1,9 +1,8 @@
 -- The points of a solid that passes the check have coordinates of at most 2 ^ 20 in size.
-use Rattle.std.specs.Prelude.{◌≡◌, Bool, not, ◌&&◌}
+use Rattle.std.specs.Prelude.{◌≡◌, Bool, not, ◌&&◌, Ok}
 use Rattle.std.proofs.Math.Bool.{true}
 use mathlib.Core.List.{List, [], ◌∷◌}
 use borrow.Author.Tests.{not-false}
-use Rattle.refusal.specs.Outcome.{ok}
 use Rattle.refusal.specs.Laws.{unless_ok}
 use Rattle.refusal.specs.Tests.{and_true}
 use Rattle.lists.specs.Walks.{all}
@@ -27,7 +26,7 @@ all_true g b (x ∷ l) e = let r = all_true g (b && g x) l e in let s = and_true
 
 -- ---- a solid that passes: its points, and the faces of its cell
 module _ {t : Precision} (F : Fair t) where
-  module _ (counted : Bool) (s : Solid) (c : Cell) (h : All Held3 s.points) (e : check counted t s ≡ ok c) where
+  module _ (counted : Bool) (s : Solid) (c : Cell) (h : All Held3 s.points) (e : check counted t s ≡ Ok c) where
     pub checked_points : All (Size3 20) s.points
     unfolding check fair_all
     checked_points =

@@ -1,9 +1,8 @@
 -- Of every solid that passes the check, and of two that do, what the tube says of a face's plane and a point has no hypothesis left but that the numbers given are values of the format, as every
 -- f64 of a program is. Assumes nothing.
-use Rattle.std.specs.Prelude.{◌≡◌}
+use Rattle.std.specs.Prelude.{◌≡◌, Ok}
 use mathlib.Core.List.{List, [], ◌∷◌, map}
 use Prim.Native.Nat.{ℕ}
-use Rattle.refusal.specs.Outcome.{ok}
 use Rattle.space.specs.declared.Point3.{Point3}
 use Rattle.space.specs.declared.Plane.{Plane}
 use Rattle.space.specs.declared.Precision.{Precision}
@@ -31,4 +30,4 @@ pub record Drawn (k : ℕ) (f : Face) : Type 0 where
 -- what the side of p says of space, against the plane w and against the plane turned round
 pub record Certain (t : Precision) (w : Plane) (p : Point3) : Type 0 where
   pub own : Tube t w p
-  pub turned : (v : Plane) → opposite_of t w ≡ ok v → Tube t v p
+  pub turned : (v : Plane) → opposite_of t w ≡ Ok v → Tube t v p

@@ -1,8 +1,7 @@
 -- What fusing's answer says of space: of each body the outward shell has an exactly positive six-fold volume, every other a negative one.
-use Rattle.std.specs.Prelude.{◌≡◌, ℕ}
+use Rattle.std.specs.Prelude.{◌≡◌, ℕ, Ok}
 use Rattle.std.proofs.Common.{subst}
 use mathlib.Core.List.{List, [], ◌∷◌, map}
-use Rattle.refusal.specs.Outcome.{ok}
 use Rattle.interval.specs.Exact.{Bounded}
 use Rattle.space.specs.declared.Point3.{Point3}
 use Rattle.polygon.specs.Members.{All}
@@ -23,7 +22,7 @@ module _ (at : ℕ → List Point3) (A : (i : ℕ) → All Held3 (at i)) where
   held [] = tt
   held (i ∷ g) = (A i, held g)
 
-  inner_signed : (l : List (List ℕ)) → Each (λ g. volume_sign (map at g) ≡ ok inward) l → Each (λ g. Bounded (volume_i (map at g))) l
+  inner_signed : (l : List (List ℕ)) → Each (λ g. volume_sign (map at g) ≡ Ok inward) l → Each (λ g. Bounded (volume_i (map at g))) l
       → Each (λ g. Below (sixfold (map at g)) nought) l
   inner_signed [] e F = tt
   inner_signed (g ∷ l) e F = ((shell_signed (map at g) (held g) F.0).inn e.0, inner_signed l e.1 F.1)

@@ -1,11 +1,10 @@
 -- What the sense of a shell means: a shell called outward has an exactly positive six-fold volume, one called inward a negative one.
-use Rattle.std.specs.Prelude.{◌≡◌, refl, ℕ, ◌^◌, ◌<◌}
+use Rattle.std.specs.Prelude.{◌≡◌, refl, ℕ, ◌^◌, ◌<◌, Ok}
 use mathlib.Core.List.{List, [], ◌∷◌, map}
 use Rattle.std.proofs.Common.{arith, pow_pos}
 use Rattle.std.specs.Float.{binary64}
 use Rattle.std.specs.Float.Ieee.{of_bits}
 use Rattle.std.specs.Float.Ieee.Fits.{nan-fits}
-use Rattle.refusal.specs.Outcome.{ok}
 use Rattle.float.proofs.Places.{zero_number}
 use Rattle.interval.specs.declared.Interval.{Interval}
 use Rattle.interval.specs.declared.Sign.{Sign}
@@ -118,14 +117,14 @@ start = record {
 }
 
 -- ---- the two answers
-called_outward : (s : Sign) → sense_of s ≡ ok outward → s ≡ S.Positive
+called_outward : (s : Sign) → sense_of s ≡ Ok outward → s ≡ S.Positive
 unfolding sense_of
 called_outward S.Positive e = refl
 called_outward S.Negative e = let q : ◌≡◌ {A = ℕ} 0 1 = cc in absurd (omega arith)
 called_outward S.Zero e = let q : ◌≡◌ {A = ℕ} 0 1 = cc in absurd (omega arith)
 called_outward S.Unknown e = let q : ◌≡◌ {A = ℕ} 0 1 = cc in absurd (omega arith)
 
-called_inward : (s : Sign) → sense_of s ≡ ok inward → s ≡ S.Negative
+called_inward : (s : Sign) → sense_of s ≡ Ok inward → s ≡ S.Negative
 unfolding sense_of
 called_inward S.Positive e = let q : ◌≡◌ {A = ℕ} 0 1 = cc in absurd (omega arith)
 called_inward S.Negative e = refl

@@ -1,7 +1,6 @@
 -- What the sense of a shell means: a shell called outward has an exactly positive six-fold volume, one called inward a negative one.
-use Rattle.std.specs.Prelude.{◌≡◌, ◌^◌}
+use Rattle.std.specs.Prelude.{◌≡◌, ◌^◌, Ok}
 use mathlib.Core.List.{List}
-use Rattle.refusal.specs.Outcome.{ok}
 use Rattle.interval.specs.declared.Interval.{Interval}
 use Rattle.interval.specs.Ends.{zero, point_i}
 use Rattle.interval.specs.Box.{difference_i}
@@ -18,8 +17,8 @@ use Rattle.tube_volume.specs.Sixfold.{sixfold}
 -- Of a shell whose sense is refused (21) nothing is said. Given is that all coordinates are values of the format, as every
 -- f64 of a program is.
 pub record Signed (l : List (List Point3)) : Type 0 where
-  pub out : volume_sign l ≡ ok outward → Below nought (sixfold l)
-  pub inn : volume_sign l ≡ ok inward → Below (sixfold l) nought
+  pub out : volume_sign l ≡ Ok outward → Below nought (sixfold l)
+  pub inn : volume_sign l ≡ Ok inward → Below (sixfold l) nought
 
 -- the six-fold volume in intervals: the interval whose sign decides
 abbrev pub volume_i : List (List Point3) → Interval

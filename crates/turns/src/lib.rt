@@ -20,10 +20,10 @@ pub enum Turn {
     Positive,
     Negative,
     Zero,
-    Refused(Refusal),
 }
 
 // (b - a) cross (c - a).
+#[tactic(auto, unfolding(crate::specs::Turns::determinant_of))]
 fn determinant(a: Projected, b: Projected, c: Projected) -> Interval
     ensures { result ≡ determinant_of a b c }
 {
@@ -40,28 +40,30 @@ fn is_inside(d: Interval, m: f64) -> bool
     (-m <= d.lo) & (d.hi <= m)
 }
 
-fn zero_where(small: bool) -> Turn
+fn zero_where(small: bool) -> Result<Turn, Refusal>
     ensures { result ≡ zero_where small }
 {
     if small {
-        return Turn::Zero;
+        return Ok(Turn::Zero);
     }
-    Turn::Refused(refusal::refuse(33))
+    Err(refusal::refuse(33))
 }
 
 // A certified sign, else Zero where the product is small, else 33.
-fn turned(s: Sign, small: bool) -> Turn
+#[tactic(auto, unfolding(crate::specs::Turns::turned))]
+fn turned(s: Sign, small: bool) -> Result<Turn, Refusal>
     ensures { result ≡ turned s small }
 {
     match s {
-        Sign::Positive => Turn::Positive,
-        Sign::Negative => Turn::Negative,
-        Sign::Zero => Turn::Zero,
+        Sign::Positive => Ok(Turn::Positive),
+        Sign::Negative => Ok(Turn::Negative),
+        Sign::Zero => Ok(Turn::Zero),
         Sign::Unknown => zero_where(small),
     }
 }
 
-pub fn orientation(p: Precision, a: Projected, b: Projected, c: Projected) -> Turn
+#[tactic(auto, unfolding(crate::specs::Turns::orientation_of))]
+pub fn orientation(p: Precision, a: Projected, b: Projected, c: Projected) -> Result<Turn, Refusal>
     ensures { result ≡ orientation_of p a b c }
 {
     let d = determinant(a, b, c);
@@ -69,6 +71,7 @@ pub fn orientation(p: Precision, a: Projected, b: Projected, c: Projected) -> Tu
 }
 
 // z lies between a and b, within local.
+#[tactic(auto, unfolding(crate::specs::Turns::in_range))]
 pub fn contains_range(p: Precision, a: Interval, b: Interval, z: Interval) -> bool
     ensures { result ≡ in_range p a b z }
 {
@@ -77,35 +80,41 @@ pub fn contains_range(p: Precision, a: Interval, b: Interval, z: Interval) -> bo
     (low <= z.hi) & (z.lo <= high)
 }
 
-pub fn is_positive(s: Turn) -> bool
+pub fn is_positive(s: Result<Turn, Refusal>) -> bool
     ensures { result ≡ is_positive s }
 {
     match s {
-        Turn::Positive => true,
-        Turn::Negative => false,
-        Turn::Zero => false,
-        Turn::Refused(_) => false,
+        Ok(turn) => match turn {
+            Turn::Positive => true,
+            Turn::Negative => false,
+            Turn::Zero => false,
+        },
+        Err(_) => false,
     }
 }
 
-pub fn is_negative(s: Turn) -> bool
+pub fn is_negative(s: Result<Turn, Refusal>) -> bool
     ensures { result ≡ is_negative s }
 {
     match s {
-        Turn::Positive => false,
-        Turn::Negative => true,
-        Turn::Zero => false,
-        Turn::Refused(_) => false,
+        Ok(turn) => match turn {
+            Turn::Positive => false,
+            Turn::Negative => true,
+            Turn::Zero => false,
+        },
+        Err(_) => false,
     }
 }
 
-pub fn is_zero(s: Turn) -> bool
+pub fn is_zero(s: Result<Turn, Refusal>) -> bool
     ensures { result ≡ is_zero s }
 {
     match s {
-        Turn::Positive => false,
-        Turn::Negative => false,
-        Turn::Zero => true,
-        Turn::Refused(_) => false,
+        Ok(turn) => match turn {
+            Turn::Positive => false,
+            Turn::Negative => false,
+            Turn::Zero => true,
+        },
+        Err(_) => false,
     }
 }

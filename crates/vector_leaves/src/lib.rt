@@ -124,5 +124,5 @@ pub extern "C" fn leaf_face_plane(
     let z = lent::point_by(c);
     let made = space::face_plane(p, x, y, z);
     lent::put_plane(out, lent::plane_in(made));
-    lent::planed_code(made)
+    lent::number_of(made)
 }

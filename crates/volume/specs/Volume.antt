@@ -1,6 +1,6 @@
 -- `volume_sign` of fuse.rs: a shell's six-fold volume, fan by fan from its first corner, and its sign (21). Definitions only.
-use Rattle.std.specs.Prelude.{List, [], ◌∷◌, map, ℕ, get_or}
-use Rattle.refusal.specs.Outcome.{Outcome, ok, refused, refuse}
+use Rattle.std.specs.Prelude.{List, [], ◌∷◌, map, get_or, Ok, Err}
+use Rattle.refusal.specs.Outcome.{Outcome, refuse}
 use Rattle.interval.specs.declared.Interval.{Interval}
 use Rattle.interval.specs.declared.Sign.{Sign}
 use Rattle.interval.specs.declared.Sign.TheVariants as S
@@ -35,8 +35,8 @@ first_corner l = get_or (get_or l 0 []) 0 nowhere
 
 -- 01: "shell volume uncertified"
 unfoldable pub sense_of : Sign → Outcome Sense
-sense_of S.Positive = ok outward
-sense_of S.Negative = ok inward
+sense_of S.Positive = Ok outward
+sense_of S.Negative = Ok inward
 sense_of S.Zero = refuse 21
 sense_of S.Unknown = refuse 21
 
@@ -44,7 +44,7 @@ unfoldable pub volume_sign : List (List Point3) → Outcome Sense
 volume_sign l = sense_of (sign_of (volume_from (box_of (first_corner l)) (point_i zero) l))
 
 -- what the program's answer says
-unfoldable pub sensed : Sensed → Outcome Sense
-sensed W.Outward = ok outward
-sensed W.Inward = ok inward
-sensed (W.Refused r) = refused r
+unfoldable pub sensed : Outcome Sensed → Outcome Sense
+sensed (Ok W.Outward) = Ok outward
+sensed (Ok W.Inward) = Ok inward
+sensed (Err r) = Err r

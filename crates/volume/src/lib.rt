@@ -18,9 +18,9 @@ use space::Point3;
 pub enum Sensed {
     Outward,
     Inward,
-    Refused(Refusal),
 }
 
+#[tactic(auto, unfolding(crate::specs::Shell::point_at))]
 fn corner(points: &[f64], i: usize) -> Point3
     requires { 3 * i + 3 ≤ length points.now }
     ensures { result ≡ point_at points.now i }
@@ -34,6 +34,7 @@ fn corner(points: &[f64], i: usize) -> Point3
 }
 
 // From the origin to point i.
+#[tactic(auto, unfolding(crate::specs::Shell::vector_at))]
 fn vector(points: &[f64], origin: [Interval; 3], i: usize) -> [Interval; 3]
     requires { 3 * i + 3 ≤ length points.now }
     ensures { result ≡ vector_at points.now origin i }
@@ -42,6 +43,7 @@ fn vector(points: &[f64], origin: [Interval; 3], i: usize) -> [Interval; 3]
 }
 
 // One tetrahedron more, added in three parts.
+#[tactic(auto, unfolding(crate::specs::Volume::wedge))]
 fn add_wedge(total: Interval, a: [Interval; 3], n: [Interval; 3]) -> Interval
     ensures { result ≡ wedge total a n }
 {
@@ -51,6 +53,7 @@ fn add_wedge(total: Interval, a: [Interval; 3], n: [Interval; 3]) -> Interval
 }
 
 // The triangle of a facet's fan from vertex i to the next.
+#[tactic(auto, using(crate::specs::Shell::points_at, crate::specs::Shell::points_next), unfolding(crate::specs::Shell::turn))]
 fn add_turn(
     points: &[f64],
     v: &[u64],
@@ -81,10 +84,8 @@ fn add_fan(
 {
     let a = vector(points, origin, v[s] as usize);
     let mut total = volume;
-    let mut i = s + 1;
-    while i + 1 < e {
+    for i in s + 1..e - 1 {
         total = add_turn(points, v, origin, a, i, total);
-        i += 1;
     }
     total
 }
@@ -101,25 +102,23 @@ fn shell_volume(
     ensures { result ≡ volume_from origin (point_i zero) (shell_points points.now v.now starts.now shell.now) }
 {
     let mut total = interval::point(0.0);
-    let mut p = 0;
-    while p < shell.len() {
-        let k = shell[p] as usize;
+    for &facet in shell {
+        let k = facet as usize;
         let s = starts[k] as usize;
         let e = starts[k + 1] as usize;
         total = add_fan(points, v, origin, s, e, total);
-        p += 1;
     }
     total
 }
 
-fn sense_of(s: Sign) -> Sensed
+#[tactic(auto, unfolding(crate::specs::Volume::sensed, crate::specs::Volume::sense_of))]
+fn sense_of(s: Sign) -> Result<Sensed, Refusal>
     ensures { sensed result ≡ sense_of s }
 {
     match s {
-        Sign::Positive => Sensed::Outward,
-        Sign::Negative => Sensed::Inward,
-        Sign::Zero => Sensed::Refused(refusal::refuse(21)),
-        Sign::Unknown => Sensed::Refused(refusal::refuse(21)),
+        Sign::Positive => Ok(Sensed::Outward),
+        Sign::Negative => Ok(Sensed::Inward),
+        Sign::Zero | Sign::Unknown => Err(refusal::refuse(21)),
     }
 }
 
@@ -134,7 +133,12 @@ fn origin_of(points: &[f64], v: &[u64], starts: &[u64], shell: &[u64]) -> [Inter
 }
 
 // Whether a shell's volume is certified outward or inward; else 21.
-pub fn volume_sign(points: &[f64], v: &[u64], starts: &[u64], shell: &[u64]) -> Sensed
+pub fn volume_sign(
+    points: &[f64],
+    v: &[u64],
+    starts: &[u64],
+    shell: &[u64],
+) -> Result<Sensed, Refusal>
     requires { Points points.now v.now × Facets v.now starts.now shell.now }
     ensures { sensed result ≡ volume_sign (shell_points points.now v.now starts.now shell.now) }
 {

@@ -5,12 +5,6 @@ ghost use Rattle.std.specs.Prelude.{◌≡◌, ◌+◌, ◌≤◌, ◌<◌, leng
 ghost use Rattle.std.proofs.lemmas.List.Edits.{sets};
 ghost use Rattle.words.specs.Little.{digits, index_at, word_at, float_at, float_bytes};
 
-fn wide(b: u8) -> u64
-    ensures { result ≡ b }
-{
-    b as u64
-}
-
 // Byte i from a place on; 0 past the end.
 fn byte_at(s: &[u8], at: usize, i: usize) -> u64
     ensures value { result ≡ get_or (drop at s.now) i 0 }
@@ -22,10 +16,11 @@ fn byte_at(s: &[u8], at: usize, i: usize) -> u64
     if s.len() - at <= i {
         return 0;
     }
-    wide(s[at + i])
+    u64::from(s[at + i])
 }
 
 // The number of 2 bytes.
+#[tactic(auto, using(crate::specs::Laws::index_is))]
 pub fn index_at(s: &[u8], at: usize) -> u64
     ensures { result ≡ index_at s.now at }
 {
@@ -35,6 +30,7 @@ pub fn index_at(s: &[u8], at: usize) -> u64
 }
 
 // The number of 8 bytes.
+#[tactic(auto, using(crate::specs::Laws::word_is))]
 pub fn word_at(s: &[u8], at: usize) -> u64
     ensures { result ≡ word_at s.now at }
 {
@@ -49,17 +45,11 @@ pub fn word_at(s: &[u8], at: usize) -> u64
     b0 + 256 * (b1 + 256 * (b2 + 256 * (b3 + 256 * (b4 + 256 * (b5 + 256 * (b6 + 256 * b7))))))
 }
 
+#[tactic(auto, unfolding(crate::specs::Little::float_at))]
 pub fn float_at(s: &[u8], at: usize) -> f64
     ensures { result ≡ float_at s.now at }
 {
     float::float_of(word_at(s, at))
-}
-
-fn low_byte(x: u64) -> u8
-    requires { x < 256 }
-    ensures { result ≡ x }
-{
-    x as u8
 }
 
 // The n lowest bytes of x are stored from a place on.
@@ -68,11 +58,9 @@ fn put_digits(out: &mut [u8], at: usize, n: usize, x: u64)
     ensures { out.new ≡ sets out.old at (digits n x) }
 {
     let mut rest = x;
-    let mut i = 0;
-    while i < n {
-        out[at + i] = low_byte(rest % 256);
+    for i in 0..n {
+        out[at + i] = (rest % 256) as u8;
         rest = rest / 256;
-        i += 1;
     }
 }
 
@@ -90,6 +78,7 @@ pub fn put_count(out: &mut [u8], at: usize, x: u64)
     put_digits(out, at, 4, x);
 }
 
+#[tactic(auto, unfolding(crate::specs::Little::float_bytes))]
 pub fn put_float(out: &mut [u8], at: usize, x: f64)
     requires { at + 8 ≤ length out.old }
     ensures { out.new ≡ sets out.old at (float_bytes x) }

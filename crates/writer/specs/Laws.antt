@@ -1,12 +1,11 @@
 -- Laws of the writer's loops, in the words of the code.
-use Rattle.std.specs.Prelude.{◌≡◌, refl, ℕ, zero, suc, ◌+◌, ◌*◌, ◌≤◌, ◌<◌, drop, get_or, set, Float}
-use Rattle.std.proofs.Common.{sym, ◌∙◌, subst, add-one}
+use Rattle.std.specs.Prelude.{◌≡◌, refl, ℕ, ◌+◌, ◌*◌, ◌≤◌, set, Float}
+use Rattle.std.proofs.Common.{sym, ◌∙◌, add-one}
 use Rattle.std.proofs.Math.Path.{ap}
-use mathlib.Core.List.{List, [], ◌∷◌, ◌++◌, map, append_assoc, append-nil}
+use mathlib.Core.List.{List, [], ◌∷◌, ◌++◌, map, append_assoc}
 use native.Mathlib.Omega.{arith}
 use Rattle.std.proofs.Math.ListN.{length, length-append}
 use Rattle.std.proofs.lemmas.List.Edits.{sets}
-use Rattle.std.proofs.Math.Seq.{length-sets}
 use Rattle.space.specs.declared.Point3.{Point3}
 use Rattle.space.specs.declared.Precision.{Precision}
 use Rattle.space.specs.Shapes.{Solid}
@@ -15,7 +14,7 @@ use Rattle.words.specs.Laws.{length_digits, length_float}
 use Rattle.polygon.specs.Memory.{points_at}
 use Rattle.polygon.specs.MemoryLaws.{length_points_at}
 use Rattle.room.specs.Rooms.{counts_at}
-use Rattle.room.specs.Laws.{sets_append, next_count, counts_done}
+use Rattle.room.specs.Laws.{sets_append}
 use Rattle.job.specs.declared.Operation.{Operation}
 use Rattle.job.specs.Bytes.{records_to, faces_to, solid_to, job_bytes, operation_byte}
 use Rattle.job.specs.Written.{precision_bytes, point_bytes, solid_bodies, job_bodies, length_point}

@@ -1,5 +1,5 @@
 -- A row of records of one width, written one after another: one law for the points, the corners, the counts.
-use Rattle.std.specs.Prelude.{◌≡◌, refl, List, [], ◌∷◌, ◌++◌, ℕ, zero, suc, ◌+◌, ◌*◌, ◌≤◌, ◌<◌, length, drop, get_or, Float}
+use Rattle.std.specs.Prelude.{◌≡◌, refl, List, [], ◌∷◌, ◌++◌, ℕ, suc, ◌+◌, ◌*◌, ◌≤◌, ◌<◌, length, drop, get_or, Float}
 use Rattle.std.proofs.Common.{sym, ◌∙◌, arith, mul-add, mul-one, mul-zero, add-zero, length-append}
 use Rattle.std.proofs.Math.Path.{ap, subst}
 use Rattle.std.proofs.lemmas.List.Edits.{sets}

@@ -15,32 +15,31 @@ use job::Operation;
 use space::Precision;
 
 // The records of m points.
+#[tactic(auto, using(crate::specs::Rows::points_start, crate::specs::Laws::points_written))]
 fn write_points(points: &[f64], m: usize, out: &mut [u8], at: usize)
     requires { (3 * m ≤ length points.now) × (at + 25 * m ≤ length out.old) }
     ensures { out.new ≡ sets out.old at (records_to 2 (map point_bytes (points_at points.now 0 m)) []) }
 {
-    let mut i = 0;
-    while i < m {
+    for i in 0..m {
         let q = polygon::get_point(points, 3 * i);
         pack::put_point(out, at + 25 * i, q);
-        i += 1;
     }
 }
 
 // The records of n corners, whose places stand from k on.
+#[tactic(auto, using(crate::specs::Rows::numbers_start, crate::specs::Laws::corners_written))]
 fn write_corners(places: &[u64], k: usize, n: usize, out: &mut [u8], at: usize)
     requires { (k + n ≤ length places.now) × (at + 3 * n ≤ length out.old) }
     ensures { out.new ≡ sets out.old at (records_to 4 (map (digits 2) (counts_at places.now k n)) []) }
 {
-    let mut i = 0;
-    while i < n {
+    for i in 0..n {
         let x = places[k + i];
         pack::put_corner(out, at + 3 * i, x);
-        i += 1;
     }
 }
 
 // A face opens, and its corners follow.
+#[tactic(auto, using(crate::specs::Laws::face_stored))]
 fn write_face(places: &[u64], k: usize, n: usize, out: &mut [u8], at: usize)
     requires { (k + n ≤ length places.now) × (at + 1 + 3 * n ≤ length out.old) }
     ensures { out.new ≡ sets out.old at (face_record (counts_at places.now k n)) }
@@ -57,13 +56,11 @@ fn write_faces(places: &[u64], counts: &[u64], n: usize, out: &mut [u8], at: usi
 {
     let mut k = 0;
     let mut o = at;
-    let mut j = 0;
-    while j < n {
+    for j in 0..n {
         let c = counts[j] as usize;
         write_face(places, k, c, out, o);
         k += c;
         o += 1 + 3 * c;
-        j += 1;
     }
     o
 }

@@ -1,5 +1,5 @@
 use native.Mathlib.Omega.{arith}
-use Prim.Native.Nat.{ℕ, ◌+◌, ◌-◌, ◌*◌, ◌≤◌}
+use Prim.Native.Nat.{ℕ, ◌+◌, ◌*◌, ◌≤◌}
 use lib.ListN.{length, get_or}
 use Rattle.answer.specs.Laws.{facets_start, facet_fits, facet_inside, facets_turn, facets_end}
 use Rattle.answer.proofs.put_facets.Goals as goal

@@ -1,4 +1,3 @@
-use Prim.Native.Nat.{◌-◌}
 use Rattle.arrangement.specs.Laws.{starting_start, starting_low, starting_step, starting_end}
 use native.Mathlib.Omega.{arith}
 use Rattle.arrangement.proofs.starts_of.Goals as goal
@@ -14,12 +13,6 @@ offset_bounds-starts-i c = omega (arith, c.requires.2, c.loop-i-test.true, c.loo
 
 pub overflow_add-at : goal.overflow_add-at
 overflow_add-at c = omega (arith, starting_low c.loop-i.invariant c.loop-i-test.true c.requires.1)
-
-pub overflow_add-i : goal.overflow_add-i
-overflow_add-i c = omega (arith, c.requires.1, c.loop-i-test.true, c.well_formed)
-
-pub loop-i-smaller : goal.loop-i-smaller
-loop-i-smaller c = omega (arith, c.loop-i-test.true)
 
 pub loop-i-preserved : goal.loop-i-preserved
 loop-i-preserved c = starting_step c.loop-i.invariant c.loop-i-test.true c.requires.1

@@ -1,8 +1,10 @@
+use Rattle.std.specs.Prelude.{◌≡◌, Err}
+use borrow.Author.Rules.{rules}
 use native.Mathlib.Omega.{arith}
 use mathlib.Core.Path.{refl}
 use Rattle.interfaces.specs.Facets.{facets_of}
 use Rattle.assembly.specs.Walk.{no_fewer}
-use Rattle.assembly.specs.Loop.{step_room, stepped}
+use Rattle.assembly.specs.Loop.{step_room, stepped, step_refused}
 use Rattle.assembly.proofs.next_body.Goals as goal
 
 pub offset_bounds-cells-a : goal.offset_bounds-cells-a
@@ -38,8 +40,8 @@ slice_bounds-fuse_body-end c =
     let l = w.inn c.args.i h in
     omega (arith, u, l)
 
-pub fuse_body-r-requires : goal.fuse_body-r-requires
-fuse_body-r-requires c = let w = c.requires.starts.0 in
+pub fuse_body-requires : goal.fuse_body-requires
+fuse_body-requires c = let w = c.requires.starts.0 in
     let h = c.requires.starts.1 in
     let a = c.args in
     let fs = facets_of a.v.now a.starts.now a.owners.now a.f in
@@ -47,8 +49,8 @@ fuse_body-r-requires c = let w = c.requires.starts.0 in
 
 pub overflow_sub-shells : goal.overflow_sub-shells
 overflow_sub-shells c =
-    let F = c.fuse_body-r in
-    omega (arith, no_fewer _ _ _ _ _ _ _ _ _ F.ensures)
+    let F = c.fuse_body in
+    omega (arith, no_fewer _ _ _ _ _ _ _ _ _ _ F.ensures c.in_ok-r.was)
 
 pub offset_bounds-shells-i : goal.offset_bounds-shells-i
 offset_bounds-shells-i c =
@@ -62,45 +64,44 @@ bounds-shells-i c =
     let h = c.requires.starts.1 in
     c.requires.starts.2
 
-pub after_body-requires : goal.after_body-requires
-after_body-requires c =
-    let w = c.requires.starts.0 in
-    let h = c.requires.starts.1 in
-    h
+pub returns-in_err-r : goal.returns-in_err-r
+returns-in_err-r c =
+    let told : c.from_residual.result ≡ Err c.in_err-r.field-0.0 = search rules in
+    step_refused _ _ _ _ _ c.requires.starts.0 c.requires.starts.1 _ _ _ _ _ _ _ _ _ _ _ c.fuse_body.ensures c.in_err-r.was told
 
 pub shape_of-faces : goal.shape_of-faces
-shape_of-faces c = c.fuse_body-r.auto.faces
+shape_of-faces c = c.fuse_body.auto.faces
 
 pub shape_of-d : goal.shape_of-d
-shape_of-d c = c.fuse_body-r.auto.d
+shape_of-d c = c.fuse_body.auto.d
 
 pub shape_of-k : goal.shape_of-k
-shape_of-k c = c.fuse_body-r.auto.k
+shape_of-k c = c.fuse_body.auto.k
 
 pub shape_of-s : goal.shape_of-s
-shape_of-s c = c.fuse_body-r.auto.s
+shape_of-s c = c.fuse_body.auto.s
 
 pub shape_of-ord : goal.shape_of-ord
-shape_of-ord c = c.fuse_body-r.auto.ord
+shape_of-ord c = c.fuse_body.auto.ord
 
 pub shape_of-ends : goal.shape_of-ends
-shape_of-ends c = c.fuse_body-r.auto.ends
+shape_of-ends c = c.fuse_body.auto.ends
 
 pub shape_of-nodes : goal.shape_of-nodes
-shape_of-nodes c = c.fuse_body-r.auto.nodes
+shape_of-nodes c = c.fuse_body.auto.nodes
 
 pub shape_of-marks : goal.shape_of-marks
-shape_of-marks c = c.fuse_body-r.auto.cuts
+shape_of-marks c = c.fuse_body.auto.cuts
 
 pub shape_of-out : goal.shape_of-out
-shape_of-out c = c.fuse_body-r.auto.out
+shape_of-out c = c.fuse_body.auto.out
 
 pub shape_of-sizes : goal.shape_of-sizes
-shape_of-sizes c = c.fuse_body-r.auto.sizes
+shape_of-sizes c = c.fuse_body.auto.sizes
 
 pub returns : goal.returns
 returns c =
     let w = c.requires.starts.0 in
     let h = c.requires.starts.1 in
-    let F = c.fuse_body-r in
-    stepped _ _ _ _ _ w h _ _ _ _ _ _ _ _ _ F.result _ F.ensures refl c.after_body.ensures
+    let F = c.fuse_body in
+    stepped _ _ _ _ _ w h _ _ _ _ _ _ _ _ _ _ _ F.ensures c.in_ok-r.was refl

@@ -46,8 +46,8 @@ shape_of-order c = c.carve_cell.auto.order
 pub shape_of-chain : goal.shape_of-chain
 shape_of-chain c = c.carve_cell.auto.chain
 
-pub returns-in-Made : goal.returns-in-Made
-returns-in-Made c = carves_cell _ _ _ _ _ _ _ _ _ c.requires.ready (not-false _ (ap not c.if-not-some.false)) _ _ _ _ _ _ _ _ c.opposite-o.ensures c.in-Made.is c.carve_cell.ensures.ready c.carve_cell.ensures.sizes_after
+pub returns-in-Ok : goal.returns-in-Ok
+returns-in-Ok c = carves_cell _ _ _ _ _ _ _ _ _ c.requires.ready (not-false _ (ap not c.if-not-some.false)) _ _ _ _ _ _ _ _ c.opposite-o.ensures c.in-Ok.is c.carve_cell.ensures.ready c.carve_cell.ensures.sizes_after
 
-pub returns-in-Refused : goal.returns-in-Refused
-returns-in-Refused c = carves_refused _ _ _ _ _ _ _ _ _ c.requires.ready (not-false _ (ap not c.if-not-some.false)) _ _ c.opposite-o.ensures c.in-Refused.is
+pub returns-in-Err : goal.returns-in-Err
+returns-in-Err c = carves_refused _ _ _ _ _ _ _ _ _ c.requires.ready (not-false _ (ap not c.if-not-some.false)) _ _ c.opposite-o.ensures c.in-Err.is

@@ -9,7 +9,7 @@ pub returns-in_default : goal.returns-in_default
 returns-in_default c = left_stays _ _ _ _ _ c.in_default.is
 
 pub returns-then-not-some : goal.returns-then-not-some
-returns-then-not-some c = left_nothing _ _ _ _ _ _ c.in-Fine.is (not-true _ (ap not c.if-not-some.true))
+returns-then-not-some c = left_nothing _ _ _ _ _ _ c.in-Ok.is (not-true _ (ap not c.if-not-some.true))
 
 pub clip-p-requires : goal.clip-p-requires
 clip-p-requires c =
@@ -32,4 +32,4 @@ keep-requires c = (
 
 pub returns : goal.returns
 returns c =
-    left_cut _ _ _ _ _ _ _ _ _ _ _ _ _ _ c.in-Fine.is (not-false _ (ap not c.if-not-some.false)) c.requires.sits c.requires.place.1 c.requires.place.0 c.clip-p.ensures c.keep.ensures
+    left_cut _ _ _ _ _ _ _ _ _ _ _ _ _ _ c.in-Ok.is (not-false _ (ap not c.if-not-some.false)) c.requires.sits c.requires.place.1 c.requires.place.0 c.clip-p.ensures c.keep.ensures

@@ -2,17 +2,13 @@ use mathlib.Core.Path.{sym, ◌∙◌}
 use Prim.Native.Nat.{◌+◌, ◌≤◌, ◌<◌}
 use native.Mathlib.Omega.{arith}
 use Rattle.cell.specs.Cells.{is_full}
-use Rattle.cell.specs.Laws.{turned_stays, turned_full, turned_added, counted, not_full}
+use Rattle.cell.specs.Laws.{turned_full, turned_added, counted, not_full}
 use Rattle.cell.proofs.add_face.Goals as goal
-
-pub returns-in_default : goal.returns-in_default
-returns-in_default c =
-    turned_stays _ _ _ _ _ _ _ _ c.requires.fits.few c.requires.fits.fit c.in_default.is
 
 pub returns-then-is_full : goal.returns-then-is_full
 returns-then-is_full c =
-    turned_full _ _ _ _ _ _ _ _ c.requires.fits.few c.requires.fits.fit c.in-Fine.is
-    (counted _ _ _ _ _ _ _ c.requires.n_bound.1 c.is_full.ensures c.if-is_full.true) c.refuse-r.ensures
+    turned_full _ _ _ _ _ _ _ _
+    (counted _ _ _ _ _ _ _ c.requires.n_bound.1 c.is_full.ensures c.if-is_full.true) c.refuse.ensures
 
 pub put_face-requires : goal.put_face-requires
 put_face-requires c = let space : let A = c.args in (A.s.faces < 128) × (A.s.corners + A.p.n ≤ A.limit) = not_full _ _ _ _ (sym c.is_full.ensures ∙ c.if-is_full.false) in
@@ -21,4 +17,4 @@ put_face-requires c = let space : let A = c.args in (A.s.faces < 128) × (A.s.co
 
 pub returns : goal.returns
 returns c =
-    turned_added _ _ _ _ _ _ _ _ _ _ _ c.requires.n_bound.0 c.requires.n_bound.1 c.in-Fine.is c.is_full.ensures c.if-is_full.false c.put_face.ensures.s_after c.put_face.ensures.counts_after
+    turned_added _ _ _ _ _ _ _ _ _ _ _ c.requires.n_bound.0 c.requires.n_bound.1 c.is_full.ensures c.if-is_full.false c.put_face.ensures.s_after c.put_face.ensures.counts_after

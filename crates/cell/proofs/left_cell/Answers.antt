@@ -1,14 +1,16 @@
+use Rattle.std.specs.Prelude.{Err, ◌≡◌}
+use Rattle.std.proofs.Common.{rules}
 use Prim.Native.Nat.{ℕ, ◌+◌, ◌-◌, ◌*◌, ◌≤◌}
 use native.Mathlib.Omega.{arith}
 use lib.ListN.{length, get_or}
-use Rattle.cell.specs.Laws.{copying_start, copying_step, copying_end, ahead_small, ahead_inside}
+use Rattle.cell.specs.Laws.{copying_start, copying_step, copying_stop, copying_end, ahead_small, ahead_inside}
 use Rattle.cell.proofs.left_cell.Goals as goal
 
 pub loop-i-init : goal.loop-i-init
 loop-i-init c = copying_start _ _ _ _ _ _ _ _ _ _ c.requires.within
 
-pub copy_face-s-requires : goal.copy_face-s-requires
-copy_face-s-requires c = let size : ℕ = (let A = c.args in get_or A.sizes.now (A.j + c.loop-i.i) 0) in
+pub copy_face-requires : goal.copy_face-requires
+copy_face-requires c = let size : ℕ = (let A = c.args in get_or A.sizes.now (A.j + c.loop-i.i) 0) in
     let small : size ≤ 128 = ahead_small _ _ _ _ _ _ c.requires.listed c.loop-i-test.true c.loop-i.invariant.ahead in
     let size : ℕ = (let A = c.args in get_or A.sizes.now (A.j + c.loop-i.i) 0) in
     let inside : c.loop-i.o + 13 + 3 * size ≤ length c.args.src.now = ahead_inside _ _ _ _ _ _ c.requires.listed c.loop-i-test.true c.loop-i.invariant.ahead in
@@ -37,12 +39,14 @@ overflow_add-o-in-loop-i c = let size : ℕ = (let A = c.args in get_or A.sizes.
     let inside : c.loop-i.o + 13 + 3 * size ≤ length c.args.src.now = ahead_inside _ _ _ _ _ _ c.requires.listed c.loop-i-test.true c.loop-i.invariant.ahead in
     omega (arith, inside, c.well_formed)
 
-pub overflow_add-i : goal.overflow_add-i
-overflow_add-i c = omega (arith, c.loop-i-test.true, c.well_formed)
+pub returns-in_err-s : goal.returns-in_err-s
+returns-in_err-s c =
+    let told : c.from_residual.result ≡ Err c.in_err-s.field-0.0 = search rules in
+    copying_stop _ _ _ _ _ _ _ _ _ _ _ _ _ _ _ _ _ _ c.requires.listed c.loop-i-test.true c.copy_face.ensures c.loop-i.invariant _ _ c.in_err-s.was told
 
 pub loop-i-preserved : goal.loop-i-preserved
 loop-i-preserved c =
-    copying_step _ _ _ _ _ _ _ _ _ _ _ _ _ _ _ _ _ _ c.requires.listed c.loop-i-test.true c.copy_face-s.ensures c.copy_face-s.auto.dst c.copy_face-s.auto.counts c.loop-i.invariant
+    copying_step _ _ _ _ _ _ _ _ _ _ _ _ _ _ _ _ _ _ c.requires.listed c.loop-i-test.true c.copy_face.ensures c.loop-i.invariant _ c.in_ok-s.was c.copy_face.auto.dst c.copy_face.auto.counts
 
 pub returns : goal.returns
 returns c = copying_end _ _ _ _ _ _ _ _ _ _ _ _ _ _ _ c.loop-i-test.false c.loop-i.invariant

@@ -1,9 +1,5 @@
-use Prim.Native.Nat.{◌-◌}
 use Rattle.cell.specs.Laws.{Copying}
 use Rattle.cell.proofs.left_cell.Given as goal
 
 abbrev pub invariant-loop-i : goal.invariant-loop-i
 invariant-loop-i l = Copying l.limit l.src l.from l.sizes l.j l.faces l.initial.dst l.at l.initial.counts l.k l.s l.dst l.counts l.o l.i
-
-abbrev pub decreases-loop-i : goal.decreases-loop-i
-decreases-loop-i l = l.faces - l.i

@@ -13,7 +13,7 @@ loop-j-init c = putting_start _ _
 
 pub offset_bounds-marks-j : goal.offset_bounds-marks-j
 offset_bounds-marks-j c =
-    let fine = c.in-Fine.is in
+    let fine = c.in-Ok.is in
     let L = tells_lain _ _ _ _ _ _ _ _ c.requires.0 fine in
     let I = c.loop-j.invariant in
     let h = inside (tells_many _ _ _ _ _ _ _ _ c.requires.0 fine) c.loop-j-test.true in
@@ -22,7 +22,7 @@ offset_bounds-marks-j c =
 
 pub bounds-marks-j : goal.bounds-marks-j
 bounds-marks-j c =
-    let fine = c.in-Fine.is in
+    let fine = c.in-Ok.is in
     let L = tells_lain _ _ _ _ _ _ _ _ c.requires.0 fine in
     let I = c.loop-j.invariant in
     let h = inside (tells_many _ _ _ _ _ _ _ _ c.requires.0 fine) c.loop-j-test.true in
@@ -31,7 +31,7 @@ bounds-marks-j c =
 
 pub offset_bounds-sizes-j : goal.offset_bounds-sizes-j
 offset_bounds-sizes-j c =
-    let fine = c.in-Fine.is in
+    let fine = c.in-Ok.is in
     let L = tells_lain _ _ _ _ _ _ _ _ c.requires.0 fine in
     let I = c.loop-j.invariant in
     let h = inside (tells_many _ _ _ _ _ _ _ _ c.requires.0 fine) c.loop-j-test.true in
@@ -40,7 +40,7 @@ offset_bounds-sizes-j c =
 
 pub bounds-sizes-j : goal.bounds-sizes-j
 bounds-sizes-j c =
-    let fine = c.in-Fine.is in
+    let fine = c.in-Ok.is in
     let L = tells_lain _ _ _ _ _ _ _ _ c.requires.0 fine in
     let I = c.loop-j.invariant in
     let h = inside (tells_many _ _ _ _ _ _ _ _ c.requires.0 fine) c.loop-j-test.true in
@@ -49,7 +49,7 @@ bounds-sizes-j c =
 
 pub corners_of-c-requires : goal.corners_of-c-requires
 corners_of-c-requires c =
-    let fine = c.in-Fine.is in
+    let fine = c.in-Ok.is in
     let L = tells_lain _ _ _ _ _ _ _ _ c.requires.0 fine in
     let I = c.loop-j.invariant in
     let h = inside (tells_many _ _ _ _ _ _ _ _ c.requires.0 fine) c.loop-j-test.true in
@@ -58,7 +58,7 @@ corners_of-c-requires c =
 
 pub offset_bounds-points-p : goal.offset_bounds-points-p
 offset_bounds-points-p c =
-    let fine = c.in-Fine.is in
+    let fine = c.in-Ok.is in
     let L = tells_lain _ _ _ _ _ _ _ _ c.requires.0 fine in
     let I = c.loop-j.invariant in
     let h = inside (tells_many _ _ _ _ _ _ _ _ c.requires.0 fine) c.loop-j-test.true in
@@ -67,7 +67,7 @@ offset_bounds-points-p c =
 
 pub slice_bounds-put_solid-count : goal.slice_bounds-put_solid-count
 slice_bounds-put_solid-count c =
-    let fine = c.in-Fine.is in
+    let fine = c.in-Ok.is in
     let L = tells_lain _ _ _ _ _ _ _ _ c.requires.0 fine in
     let I = c.loop-j.invariant in
     let h = inside (tells_many _ _ _ _ _ _ _ _ c.requires.0 fine) c.loop-j-test.true in
@@ -76,7 +76,7 @@ slice_bounds-put_solid-count c =
 
 pub slice_bounds-put_solid-start : goal.slice_bounds-put_solid-start
 slice_bounds-put_solid-start c =
-    let fine = c.in-Fine.is in
+    let fine = c.in-Ok.is in
     let L = tells_lain _ _ _ _ _ _ _ _ c.requires.0 fine in
     let I = c.loop-j.invariant in
     let h = inside (tells_many _ _ _ _ _ _ _ _ c.requires.0 fine) c.loop-j-test.true in
@@ -85,7 +85,7 @@ slice_bounds-put_solid-start c =
 
 pub offset_bounds-places-q : goal.offset_bounds-places-q
 offset_bounds-places-q c =
-    let fine = c.in-Fine.is in
+    let fine = c.in-Ok.is in
     let L = tells_lain _ _ _ _ _ _ _ _ c.requires.0 fine in
     let I = c.loop-j.invariant in
     let h = inside (tells_many _ _ _ _ _ _ _ _ c.requires.0 fine) c.loop-j-test.true in
@@ -94,7 +94,7 @@ offset_bounds-places-q c =
 
 pub slice_bounds-put_solid-count-in-loop-j : goal.slice_bounds-put_solid-count-in-loop-j
 slice_bounds-put_solid-count-in-loop-j c =
-    let fine = c.in-Fine.is in
+    let fine = c.in-Ok.is in
     let L = tells_lain _ _ _ _ _ _ _ _ c.requires.0 fine in
     let I = c.loop-j.invariant in
     let h = inside (tells_many _ _ _ _ _ _ _ _ c.requires.0 fine) c.loop-j-test.true in
@@ -103,7 +103,7 @@ slice_bounds-put_solid-count-in-loop-j c =
 
 pub slice_bounds-put_solid-start-in-loop-j : goal.slice_bounds-put_solid-start-in-loop-j
 slice_bounds-put_solid-start-in-loop-j c =
-    let fine = c.in-Fine.is in
+    let fine = c.in-Ok.is in
     let L = tells_lain _ _ _ _ _ _ _ _ c.requires.0 fine in
     let I = c.loop-j.invariant in
     let h = inside (tells_many _ _ _ _ _ _ _ _ c.requires.0 fine) c.loop-j-test.true in
@@ -112,7 +112,7 @@ slice_bounds-put_solid-start-in-loop-j c =
 
 pub offset_bounds-counts-f : goal.offset_bounds-counts-f
 offset_bounds-counts-f c =
-    let fine = c.in-Fine.is in
+    let fine = c.in-Ok.is in
     let L = tells_lain _ _ _ _ _ _ _ _ c.requires.0 fine in
     let I = c.loop-j.invariant in
     let h = inside (tells_many _ _ _ _ _ _ _ _ c.requires.0 fine) c.loop-j-test.true in
@@ -121,7 +121,7 @@ offset_bounds-counts-f c =
 
 pub slice_bounds-put_solid-count-in-loop-j-2 : goal.slice_bounds-put_solid-count-in-loop-j-2
 slice_bounds-put_solid-count-in-loop-j-2 c =
-    let fine = c.in-Fine.is in
+    let fine = c.in-Ok.is in
     let L = tells_lain _ _ _ _ _ _ _ _ c.requires.0 fine in
     let I = c.loop-j.invariant in
     let h = inside (tells_many _ _ _ _ _ _ _ _ c.requires.0 fine) c.loop-j-test.true in
@@ -130,7 +130,7 @@ slice_bounds-put_solid-count-in-loop-j-2 c =
 
 pub slice_bounds-put_solid-start-in-loop-j-2 : goal.slice_bounds-put_solid-start-in-loop-j-2
 slice_bounds-put_solid-start-in-loop-j-2 c =
-    let fine = c.in-Fine.is in
+    let fine = c.in-Ok.is in
     let L = tells_lain _ _ _ _ _ _ _ _ c.requires.0 fine in
     let I = c.loop-j.invariant in
     let h = inside (tells_many _ _ _ _ _ _ _ _ c.requires.0 fine) c.loop-j-test.true in
@@ -139,7 +139,7 @@ slice_bounds-put_solid-start-in-loop-j-2 c =
 
 pub put_solid-at-requires : goal.put_solid-at-requires
 put_solid-at-requires c =
-    let fine = c.in-Fine.is in
+    let fine = c.in-Ok.is in
     let L = tells_lain _ _ _ _ _ _ _ _ c.requires.0 fine in
     let I = c.loop-j.invariant in
     let h = inside (tells_many _ _ _ _ _ _ _ _ c.requires.0 fine) c.loop-j-test.true in
@@ -148,7 +148,7 @@ put_solid-at-requires c =
 
 pub overflow_mul-p : goal.overflow_mul-p
 overflow_mul-p c =
-    let fine = c.in-Fine.is in
+    let fine = c.in-Ok.is in
     let L = tells_lain _ _ _ _ _ _ _ _ c.requires.0 fine in
     let I = c.loop-j.invariant in
     let h = inside (tells_many _ _ _ _ _ _ _ _ c.requires.0 fine) c.loop-j-test.true in
@@ -157,7 +157,7 @@ overflow_mul-p c =
 
 pub overflow_add-p : goal.overflow_add-p
 overflow_add-p c =
-    let fine = c.in-Fine.is in
+    let fine = c.in-Ok.is in
     let L = tells_lain _ _ _ _ _ _ _ _ c.requires.0 fine in
     let I = c.loop-j.invariant in
     let h = inside (tells_many _ _ _ _ _ _ _ _ c.requires.0 fine) c.loop-j-test.true in
@@ -166,7 +166,7 @@ overflow_add-p c =
 
 pub overflow_add-q : goal.overflow_add-q
 overflow_add-q c =
-    let fine = c.in-Fine.is in
+    let fine = c.in-Ok.is in
     let L = tells_lain _ _ _ _ _ _ _ _ c.requires.0 fine in
     let I = c.loop-j.invariant in
     let h = inside (tells_many _ _ _ _ _ _ _ _ c.requires.0 fine) c.loop-j-test.true in
@@ -175,16 +175,7 @@ overflow_add-q c =
 
 pub overflow_add-f : goal.overflow_add-f
 overflow_add-f c =
-    let fine = c.in-Fine.is in
-    let L = tells_lain _ _ _ _ _ _ _ _ c.requires.0 fine in
-    let I = c.loop-j.invariant in
-    let h = inside (tells_many _ _ _ _ _ _ _ _ c.requires.0 fine) c.loop-j-test.true in
-    let w = putting_corners I _ _ _ _ _ _ _ L h _ _ _ refl refl refl in
-    omega (arith, c.corners_of-c.ensures, w.0, w.1, putting_points I _ _ _ _ _ _ _ L h _ _ _ refl refl refl, (putting_seats I _ _ _ _ _ _ _ L h).0, c.well_formed)
-
-pub overflow_add-j : goal.overflow_add-j
-overflow_add-j c =
-    let fine = c.in-Fine.is in
+    let fine = c.in-Ok.is in
     let L = tells_lain _ _ _ _ _ _ _ _ c.requires.0 fine in
     let I = c.loop-j.invariant in
     let h = inside (tells_many _ _ _ _ _ _ _ _ c.requires.0 fine) c.loop-j-test.true in
@@ -193,7 +184,7 @@ overflow_add-j c =
 
 pub loop-j-preserved : goal.loop-j-preserved
 loop-j-preserved c =
-    let fine = c.in-Fine.is in
+    let fine = c.in-Ok.is in
     let L = tells_lain _ _ _ _ _ _ _ _ c.requires.0 fine in
     let I = c.loop-j.invariant in
     let h = inside (tells_many _ _ _ _ _ _ _ _ c.requires.0 fine) c.loop-j-test.true in
@@ -201,13 +192,13 @@ loop-j-preserved c =
 
 pub shape_of-out : goal.shape_of-out
 shape_of-out c =
-    let fine = c.in-Fine.is in
+    let fine = c.in-Ok.is in
     let L = tells_lain _ _ _ _ _ _ _ _ c.requires.0 fine in
     let I = c.loop-j.invariant in
     putting_size I _ _ _ _ _ _ _ L
 
 pub returns : goal.returns
-returns c = let fine = c.in-Fine.is in
+returns c = let fine = c.in-Ok.is in
     let L = tells_lain _ _ _ _ _ _ _ _ c.requires.0 fine in
     let I = c.loop-j.invariant in
     record { value = (ended_end _ _ _ _ _ _ _ _ c.requires.0 fine c.args.out.now c.loop-j.out c.loop-j.at (putting_end I _ _ _ _ _ _ _ L (outside (tells_many _ _ _ _ _ _ _ _ c.requires.0 fine) c.loop-j-test.false))).0; out_after = (ended_end _ _ _ _ _ _ _ _ c.requires.0 fine c.args.out.now c.loop-j.out c.loop-j.at (putting_end I _ _ _ _ _ _ _ L (outside (tells_many _ _ _ _ _ _ _ _ c.requires.0 fine) c.loop-j-test.false))).1 }

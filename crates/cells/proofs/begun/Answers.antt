@@ -1,8 +1,8 @@
 use Rattle.cells.specs.Laws.{begun_fine, begun_refused}
 use Rattle.cells.proofs.begun.Goals as goal
 
-pub returns-in-Fine : goal.returns-in-Fine
-returns-in-Fine c = begun_fine _ _ c.empty.ensures c.in-Fine.is
+pub returns-in-Ok : goal.returns-in-Ok
+returns-in-Ok c = begun_fine _ _ c.empty.ensures c.in-Ok.is
 
-pub returns-in-Refused : goal.returns-in-Refused
-returns-in-Refused c = begun_refused _ _ _ c.gone.ensures c.in-Refused.is
+pub returns-in-Err : goal.returns-in-Err
+returns-in-Err c = begun_refused _ _ _ c.gone.ensures c.in-Err.is

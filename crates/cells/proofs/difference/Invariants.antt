@@ -1,5 +1,4 @@
 use mathlib.Core.Path.{◌≡◌}
-use Prim.Native.Nat.{◌-◌}
 use lib.ListN.{length}
 use Rattle.room.specs.Rooms.{cell_at, counts_at}
 use Rattle.cells.specs.Laws.{Walking, Four, Three}
@@ -11,6 +10,3 @@ invariant-loop-i l =
     × Four l.rest l.held l.spare l.slots l.initial.rest l.initial.held l.initial.spare l.initial.slots
     × Three l.dst l.counts l.sizes l.initial.dst l.initial.counts l.initial.sizes
     × (length l.face ≡ 384) × (length l.cap ≡ 3072) × (length l.flat ≡ 2048) × (length l.order ≡ 1024) × (length l.chain ≡ 2048)
-
-abbrev pub decreases-loop-i : goal.decreases-loop-i
-decreases-loop-i l = l.many - l.i

@@ -66,12 +66,6 @@ overflow_add-o-in-loop-i c = let size : ℕ = (let A = c.args in get_or A.corner
     let inside : c.loop-i.o + 13 + 3 * size ≤ length c.args.src.now = ahead_inside _ _ _ _ _ _ c.requires.sits.1.listed c.loop-i-test.true c.loop-i.invariant.0.ahead in
     omega (arith, inside, c.well_formed)
 
-pub overflow_add-i : goal.overflow_add-i
-overflow_add-i c = omega (arith, c.loop-i-test.true, c.well_formed)
-
-pub loop-i-smaller : goal.loop-i-smaller
-loop-i-smaller c = omega (arith, c.loop-i-test.true)
-
 pub loop-i-preserved : goal.loop-i-preserved
 loop-i-preserved c =
     let I = c.loop-i.invariant in (

@@ -1,5 +1,4 @@
 use mathlib.Core.Path.{◌≡◌}
-use Prim.Native.Nat.{◌-◌}
 use lib.ListN.{length}
 use Rattle.room.specs.Rooms.{cell_at, counts_at}
 use Rattle.cells.specs.Laws.{Meeting, Four}
@@ -10,6 +9,3 @@ invariant-loop-i l =
     Meeting l.t l.limit (cell_at l.initial.rest 0 (counts_at l.initial.held 0 l.faces)) l.src l.from l.corners l.j l.many l.s l.rest l.held l.o l.i
     × Four l.rest l.held l.spare l.slots l.initial.rest l.initial.held l.initial.spare l.initial.slots
     × (length l.face ≡ 384) × (length l.cap ≡ 3072) × (length l.flat ≡ 2048) × (length l.order ≡ 1024) × (length l.chain ≡ 2048)
-
-abbrev pub decreases-loop-i : goal.decreases-loop-i
-decreases-loop-i l = l.many - l.i

@@ -6,14 +6,14 @@ use Rattle.cells_served.proofs.served.Goals as goal
 
 pub cut_job-s-requires : goal.cut_job-s-requires
 cut_job-s-requires c = let A = c.args in
-    let q = entry_opened A.enough A.job.now _ _ c.open_job-read.ensures c.in-Made.is in
+    let q = entry_opened A.enough A.job.now _ _ c.open_job-read.ensures c.in-Ok.is in
     let L = lent_is A.limit (length A.answer.now) (length A.rest.now) (length A.spare.now) (length A.dst.now) (length A.held.now) (length A.slots.now) (length A.counts.now) (length A.sizes.now) (length A.order.now) (length A.chain.now) (length A.head.now) (length A.seen.now) (length A.work.now) (length A.nodes.now) (length A.cuts.now) (sym c.requires ∙ q.0) in
     let K = lent_cut A.limit A.answer.now A.rest.now A.spare.now A.dst.now A.held.now A.slots.now A.counts.now A.sizes.now A.order.now A.chain.now A.head.now A.seen.now A.work.now A.nodes.now A.cuts.now L in
     record { stood = (q.1, q.2, K.0); place = K.1 }
 
 pub finish_cells-v-requires : goal.finish_cells-v-requires
 finish_cells-v-requires c = let A = c.args in
-    let q = entry_opened A.enough A.job.now _ _ c.open_job-read.ensures c.in-Made.is in
+    let q = entry_opened A.enough A.job.now _ _ c.open_job-read.ensures c.in-Ok.is in
     let L = lent_is A.limit (length A.answer.now) (length A.rest.now) (length A.spare.now) (length A.dst.now) (length A.held.now) (length A.slots.now) (length A.counts.now) (length A.sizes.now) (length A.order.now) (length A.chain.now) (length A.head.now) (length A.seen.now) (length A.work.now) (length A.nodes.now) (length A.cuts.now) (sym c.requires ∙ q.0) in
     let X = c.cut_job-s in
     let K = lent_check A.limit A.answer.now A.rest.now A.spare.now A.dst.now A.held.now A.slots.now A.counts.now A.sizes.now A.order.now A.chain.now A.head.now A.seen.now A.work.now A.nodes.now A.cuts.now L _ _ _ X.auto.rest X.auto.held X.auto.slots in
@@ -22,7 +22,7 @@ finish_cells-v-requires c = let A = c.args in
 pub put_solids-requires : goal.put_solids-requires
 put_solids-requires c =
     let A = c.args in
-    let q = entry_opened A.enough A.job.now _ _ c.open_job-read.ensures c.in-Made.is in
+    let q = entry_opened A.enough A.job.now _ _ c.open_job-read.ensures c.in-Ok.is in
     let L = lent_is A.limit (length A.answer.now) (length A.rest.now) (length A.spare.now) (length A.dst.now) (length A.held.now) (length A.slots.now) (length A.counts.now) (length A.sizes.now) (length A.order.now) (length A.chain.now) (length A.head.now) (length A.seen.now) (length A.work.now) (length A.nodes.now) (length A.cuts.now) (sym c.requires ∙ q.0) in
     (holding _ _ _ _ _ _ _ _ _ c.finish_cells-v.ensures, L.answer_fits)
 
@@ -71,13 +71,13 @@ shape_of-cuts c = c.finish_cells-v.auto.cuts
 pub shape_of-answer : goal.shape_of-answer
 shape_of-answer c = c.put_solids.auto.out
 
-pub returns-in-Made : goal.returns-in-Made
-returns-in-Made c = let A = c.args in
+pub returns-in-Ok : goal.returns-in-Ok
+returns-in-Ok c = let A = c.args in
     let o = c.open_job-read.ensures in
-    let g = c.in-Made.is in
+    let g = c.in-Ok.is in
     let low = lends_low A.limit (length A.answer.now) (length A.rest.now) (length A.spare.now) (length A.dst.now) (length A.held.now) (length A.slots.now) (length A.counts.now) (length A.sizes.now) (length A.order.now) (length A.chain.now) (length A.head.now) (length A.seen.now) (length A.work.now) (length A.nodes.now) (length A.cuts.now) (sym c.requires ∙ (entry_opened A.enough A.job.now _ _ o g).0) in
     record { value = (entry_made A.enough A.limit A.job.now _ _ _ _ _ _ _ _ _ _ A.answer.now _ o g low (laid_is A.job.now A.limit _ _ _ _ _ c.cut_job-s.ensures _ _ _ _ c.finish_cells-v.ensures) (c.put_solids.ensures.value, c.put_solids.ensures.out_after)).0; answer_after = (entry_made A.enough A.limit A.job.now _ _ _ _ _ _ _ _ _ _ A.answer.now _ o g low (laid_is A.job.now A.limit _ _ _ _ _ c.cut_job-s.ensures _ _ _ _ c.finish_cells-v.ensures) (c.put_solids.ensures.value, c.put_solids.ensures.out_after)).1 }
 
-pub returns-in-Refused : goal.returns-in-Refused
-returns-in-Refused c = let A = c.args in
-    record { value = (entry_refused A.enough A.limit A.job.now _ _ _ A.answer.now c.open_job-read.ensures c.in-Refused.is c.stop.ensures).0; answer_after = (entry_refused A.enough A.limit A.job.now _ _ _ A.answer.now c.open_job-read.ensures c.in-Refused.is c.stop.ensures).1 }
+pub returns-in-Err : goal.returns-in-Err
+returns-in-Err c = let A = c.args in
+    record { value = (entry_refused A.enough A.limit A.job.now _ _ _ A.answer.now c.open_job-read.ensures c.in-Err.is c.stop.ensures).0; answer_after = (entry_refused A.enough A.limit A.job.now _ _ _ A.answer.now c.open_job-read.ensures c.in-Err.is c.stop.ensures).1 }

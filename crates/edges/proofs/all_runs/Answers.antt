@@ -1,4 +1,3 @@
-use Prim.Native.Nat.{◌-◌}
 use Rattle.edges.specs.Laid.{going_start, going_facet, going_next, going_up, going_in, going_room, going_step, going_end}
 use borrow.Author.Rules.{rules}
 use native.Mathlib.Omega.{arith}

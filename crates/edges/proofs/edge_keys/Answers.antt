@@ -1,4 +1,3 @@
-use Prim.Native.Nat.{◌-◌}
 use Rattle.edges.specs.Rims.{rimmed_start, rimmed_step, rimmed_end, rimmed_room, rimmed_last}
 use borrow.Author.Rules.{rules}
 use Rattle.edges.proofs.edge_keys.Goals as goal

@@ -1,5 +1,5 @@
 use Prim.Native.Nat.{◌-◌}
-use Rattle.edges.specs.Laid.{rounding_start, rounding_next, rounding_step, rounding_count, rounding_end, rounding_room}
+use Rattle.edges.specs.Laid.{rounding_start, rounding_next, rounding_step, rounding_end, rounding_room}
 use Prim.Native.Nat.{◌+◌}
 use native.Mathlib.Nat.{mod-lt}
 use borrow.Author.Rules.{rules}
@@ -31,4 +31,4 @@ pub loop-i-preserved : goal.loop-i-preserved
 loop-i-preserved c = search (rules, rounding_step)
 
 pub returns : goal.returns
-returns c = (search (rules, rounding_count), search (rules, rounding_end))
+returns c = (search rules, search (rules, rounding_end))

@@ -1,4 +1,3 @@
-use Prim.Native.Nat.{◌-◌}
 use Rattle.finish.specs.Laws.{totting_start, totting_few, totting_step, totting_end}
 use native.Mathlib.Omega.{arith}
 use Rattle.finish.proofs.corners_of.Goals as goal

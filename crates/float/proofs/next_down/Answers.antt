@@ -10,9 +10,6 @@ use Rattle.float.proofs.next_down.Goals as goal
 pub returns-then-is_nan : goal.returns-then-is_nan
 returns-then-is_nan c = down_nan _ (cc)
 
-pub float_to_bits-x : goal.float_to_bits-x
-float_to_bits-x c = no (sym c.is_nan.ensures ∙ c.if-is_nan.false)
-
 pub float_from_bits-result : goal.float_from_bits-result
 float_from_bits-result c =
     subst (λ (n : ℕ). T (not (nan_bits binary64 n))) (sym c.last_bits.ensures)

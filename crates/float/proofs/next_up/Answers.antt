@@ -9,9 +9,6 @@ use Rattle.float.proofs.next_up.Goals as goal
 pub returns-then-is_nan : goal.returns-then-is_nan
 returns-then-is_nan c = next_nan _ (cc)
 
-pub float_to_bits-x : goal.float_to_bits-x
-float_to_bits-x c = no (sym c.is_nan.ensures ∙ c.if-is_nan.false)
-
 pub next_bits-requires : goal.next_bits-requires
 next_bits-requires c = plain_back _ (bits_plain _ (yes c.well_formed.0.1) (no (sym c.is_nan.ensures ∙ c.if-is_nan.false)))
 

@@ -1,46 +1,41 @@
 use mathlib.Core.Path.{refl, sym}
 use native.Mathlib.Omega.{arith}
 use lib.Seq.{length-take-le}
-use Rattle.fuse_list.specs.Steps.{tools_bench, tools_places, tools_shelves, at_refused, at_made}
+use Rattle.fuse_list.specs.Steps.{tools_bench, tools_places, tools_shelves, at_made}
 use Rattle.fuse_list.proofs.fuse_laid.Goals as goal
-
-pub returns-in_default : goal.returns-in_default
-returns-in_default c =
-    let a = c.args in
-    at_refused a.y a.n a.points.now a.cycles.now a.starts.now a.owners.now _ _ _ _ _ _ _ _ c.in_default.is refl
 
 pub overflow_mul-m : goal.overflow_mul-m
 overflow_mul-m c =
-    let R = c.requires.0 c.in-Fine.is in
+    let R = c.requires.0 in
     omega (arith, R.few)
 
 pub slice_bounds-fuse-end : goal.slice_bounds-fuse-end
 slice_bounds-fuse-end c =
-    let R = c.requires.0 c.in-Fine.is in
+    let R = c.requires.0 in
     sym (length-take-le _ _ R.points)
 
 pub slice_bounds-fuse-end-2 : goal.slice_bounds-fuse-end-2
 slice_bounds-fuse-end-2 c =
-    let R = c.requires.0 c.in-Fine.is in
+    let R = c.requires.0 in
     sym (length-take-le _ _ R.cycles)
 
 pub overflow_add-f : goal.overflow_add-f
 overflow_add-f c =
-    let R = c.requires.0 c.in-Fine.is in
+    let R = c.requires.0 in
     omega (arith, R.facets, c.requires.1.low)
 
 pub slice_bounds-fuse-end-3 : goal.slice_bounds-fuse-end-3
 slice_bounds-fuse-end-3 c =
-    let R = c.requires.0 c.in-Fine.is in
+    let R = c.requires.0 in
     sym (length-take-le _ _ (omega (arith, R.starts)))
 
 pub slice_bounds-fuse-end-4 : goal.slice_bounds-fuse-end-4
 slice_bounds-fuse-end-4 c =
-    let R = c.requires.0 c.in-Fine.is in
+    let R = c.requires.0 in
     sym (length-take-le _ _ R.owners)
 
 pub fuse-requires : goal.fuse-requires
-fuse-requires c = let R = c.requires.0 c.in-Fine.is in
+fuse-requires c = let R = c.requires.0 in
     record { facetted = R.facetted; bench = tools_bench R c.requires.1; places = (tools_places R c.requires.1, tools_shelves R c.requires.1) }
 
 pub shape_of-ext : goal.shape_of-ext
@@ -88,4 +83,4 @@ shape_of-shells c = c.fuse.auto.shells
 pub returns : goal.returns
 returns c =
     let a = c.args in
-    at_made a.y a.n a.points.now a.cycles.now a.starts.now a.owners.now _ _ _ _ _ _ _ c.in-Fine.is c.fuse.ensures
+    at_made a.y a.n a.points.now a.cycles.now a.starts.now a.owners.now _ _ _ _ _ _ _ c.fuse.ensures

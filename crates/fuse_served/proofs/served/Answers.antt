@@ -6,26 +6,26 @@ use Rattle.fuse_served.proofs.served.Goals as goal
 pub cut_job-list-requires : goal.cut_job-list-requires
 cut_job-list-requires c = let A = c.args in
     let I = c.is_lent-enough in
-    record { stood = (cut_asks A.limit A.answer.now A.rest.now A.spare.now A.dst.now A.held.now A.slots.now A.counts.now A.sizes.now A.seats.now A.lengths.now A.owners.now A.cells.now A.cuts.now A.runs.now A.keys.now A.begins.now A.ord.now A.ends.now A.marks.now A.out.now A.many.now A.shells.now I.result A.job.now _ _ I.ensures c.open_job-read.ensures c.in-Made.is).0; in_bounds = (cut_asks A.limit A.answer.now A.rest.now A.spare.now A.dst.now A.held.now A.slots.now A.counts.now A.sizes.now A.seats.now A.lengths.now A.owners.now A.cells.now A.cuts.now A.runs.now A.keys.now A.begins.now A.ord.now A.ends.now A.marks.now A.out.now A.many.now A.shells.now I.result A.job.now _ _ I.ensures c.open_job-read.ensures c.in-Made.is).1 }
+    record { stood = (cut_asks A.limit A.answer.now A.rest.now A.spare.now A.dst.now A.held.now A.slots.now A.counts.now A.sizes.now A.seats.now A.lengths.now A.owners.now A.cells.now A.cuts.now A.runs.now A.keys.now A.begins.now A.ord.now A.ends.now A.marks.now A.out.now A.many.now A.shells.now I.result A.job.now _ _ I.ensures c.open_job-read.ensures c.in-Ok.is).0; in_bounds = (cut_asks A.limit A.answer.now A.rest.now A.spare.now A.dst.now A.held.now A.slots.now A.counts.now A.sizes.now A.seats.now A.lengths.now A.owners.now A.cells.now A.cuts.now A.runs.now A.keys.now A.begins.now A.ord.now A.ends.now A.marks.now A.out.now A.many.now A.shells.now I.result A.job.now _ _ I.ensures c.open_job-read.ensures c.in-Ok.is).1 }
 
 pub slice_bounds-fused_bytes-end : goal.slice_bounds-fused_bytes-end
 slice_bounds-fused_bytes-end c =
     let A = c.args in
     let I = c.is_lent-enough in
-    ends_long A.limit A.answer.now A.rest.now A.spare.now A.dst.now A.held.now A.slots.now A.counts.now A.sizes.now A.seats.now A.lengths.now A.owners.now A.cells.now A.cuts.now A.runs.now A.keys.now A.begins.now A.ord.now A.ends.now A.marks.now A.out.now A.many.now A.shells.now I.result A.job.now _ _ I.ensures c.open_job-read.ensures c.in-Made.is
+    ends_long A.limit A.answer.now A.rest.now A.spare.now A.dst.now A.held.now A.slots.now A.counts.now A.sizes.now A.seats.now A.lengths.now A.owners.now A.cells.now A.cuts.now A.runs.now A.keys.now A.begins.now A.ord.now A.ends.now A.marks.now A.out.now A.many.now A.shells.now I.result A.job.now _ _ I.ensures c.open_job-read.ensures c.in-Ok.is
 
-pub slice_bounds-fused_bytes-end-in-Made : goal.slice_bounds-fused_bytes-end-in-Made
-slice_bounds-fused_bytes-end-in-Made c =
+pub slice_bounds-fused_bytes-end-in-Ok : goal.slice_bounds-fused_bytes-end-in-Ok
+slice_bounds-fused_bytes-end-in-Ok c =
     let A = c.args in
     let I = c.is_lent-enough in
-    sym (length-take-le A.limit A.ends.now (ends_long A.limit A.answer.now A.rest.now A.spare.now A.dst.now A.held.now A.slots.now A.counts.now A.sizes.now A.seats.now A.lengths.now A.owners.now A.cells.now A.cuts.now A.runs.now A.keys.now A.begins.now A.ord.now A.ends.now A.marks.now A.out.now A.many.now A.shells.now I.result A.job.now _ _ I.ensures c.open_job-read.ensures c.in-Made.is))
+    sym (length-take-le A.limit A.ends.now (ends_long A.limit A.answer.now A.rest.now A.spare.now A.dst.now A.held.now A.slots.now A.counts.now A.sizes.now A.seats.now A.lengths.now A.owners.now A.cells.now A.cuts.now A.runs.now A.keys.now A.begins.now A.ord.now A.ends.now A.marks.now A.out.now A.many.now A.shells.now I.result A.job.now _ _ I.ensures c.open_job-read.ensures c.in-Ok.is))
 
 pub fused_bytes-requires : goal.fused_bytes-requires
 fused_bytes-requires c =
     let A = c.args in
     let I = c.is_lent-enough in
     let C = c.cut_job-list in
-    fuse_asks A.limit A.answer.now A.rest.now A.spare.now A.dst.now A.held.now A.slots.now A.counts.now A.sizes.now A.seats.now A.lengths.now A.owners.now A.cells.now A.cuts.now A.runs.now A.keys.now A.begins.now A.ord.now A.ends.now A.marks.now A.out.now A.many.now A.shells.now I.result A.job.now _ _ I.ensures c.open_job-read.ensures c.in-Made.is _ _ _ _ C.ensures _ _ _ _ _ C.auto.rest C.auto.held C.auto.slots C.auto.sizes C.auto.seats (length-take-le A.limit A.ends.now (ends_long A.limit A.answer.now A.rest.now A.spare.now A.dst.now A.held.now A.slots.now A.counts.now A.sizes.now A.seats.now A.lengths.now A.owners.now A.cells.now A.cuts.now A.runs.now A.keys.now A.begins.now A.ord.now A.ends.now A.marks.now A.out.now A.many.now A.shells.now I.result A.job.now _ _ I.ensures c.open_job-read.ensures c.in-Made.is))
+    fuse_asks A.limit A.answer.now A.rest.now A.spare.now A.dst.now A.held.now A.slots.now A.counts.now A.sizes.now A.seats.now A.lengths.now A.owners.now A.cells.now A.cuts.now A.runs.now A.keys.now A.begins.now A.ord.now A.ends.now A.marks.now A.out.now A.many.now A.shells.now I.result A.job.now _ _ I.ensures c.open_job-read.ensures c.in-Ok.is _ _ _ _ C.ensures _ _ _ _ _ C.auto.rest C.auto.held C.auto.slots C.auto.sizes C.auto.seats (length-take-le A.limit A.ends.now (ends_long A.limit A.answer.now A.rest.now A.spare.now A.dst.now A.held.now A.slots.now A.counts.now A.sizes.now A.seats.now A.lengths.now A.owners.now A.cells.now A.cuts.now A.runs.now A.keys.now A.begins.now A.ord.now A.ends.now A.marks.now A.out.now A.many.now A.shells.now I.result A.job.now _ _ I.ensures c.open_job-read.ensures c.in-Ok.is))
 
 pub shape_of-rest : goal.shape_of-rest
 shape_of-rest c = c.fused_bytes.auto.points ∙ c.cut_job-list.auto.rest
@@ -93,11 +93,11 @@ shape_of-shells c = c.fused_bytes.auto.shells
 pub shape_of-answer : goal.shape_of-answer
 shape_of-answer c = c.fused_bytes.auto.answer
 
-pub returns-in-Made : goal.returns-in-Made
-returns-in-Made c =
+pub returns-in-Ok : goal.returns-in-Ok
+returns-in-Ok c =
     let A = c.args in
     let I = c.is_lent-enough in
-    entry_made A.limit A.answer.now A.rest.now A.spare.now A.dst.now A.held.now A.slots.now A.counts.now A.sizes.now A.seats.now A.lengths.now A.owners.now A.cells.now A.cuts.now A.runs.now A.keys.now A.begins.now A.ord.now A.ends.now A.marks.now A.out.now A.many.now A.shells.now I.result A.job.now _ _ I.ensures c.open_job-read.ensures c.in-Made.is _ _ _ _ c.cut_job-list.ensures _ _ (c.fused_bytes.ensures.value, c.fused_bytes.ensures.answer_after)
+    entry_made A.limit A.answer.now A.rest.now A.spare.now A.dst.now A.held.now A.slots.now A.counts.now A.sizes.now A.seats.now A.lengths.now A.owners.now A.cells.now A.cuts.now A.runs.now A.keys.now A.begins.now A.ord.now A.ends.now A.marks.now A.out.now A.many.now A.shells.now I.result A.job.now _ _ I.ensures c.open_job-read.ensures c.in-Ok.is _ _ _ _ c.cut_job-list.ensures _ _ (c.fused_bytes.ensures.value, c.fused_bytes.ensures.answer_after)
 
-pub returns-in-Refused : goal.returns-in-Refused
-returns-in-Refused c = let A = c.args in let I = c.is_lent-enough in entry_refused I.result _ A.limit A.job.now _ _ _ A.answer.now I.ensures c.open_job-read.ensures c.in-Refused.is c.stop.ensures
+pub returns-in-Err : goal.returns-in-Err
+returns-in-Err c = let A = c.args in let I = c.is_lent-enough in entry_refused I.result _ A.limit A.job.now _ _ _ A.answer.now I.ensures c.open_job-read.ensures c.in-Err.is c.stop.ensures

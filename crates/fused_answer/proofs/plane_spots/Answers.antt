@@ -1,4 +1,3 @@
-use Prim.Native.Nat.{◌-◌}
 use Rattle.fused_answer.specs.Spots.{spotting_start, spotting_fits, spotting_turn, spotting_end}
 use native.Mathlib.Omega.{arith}
 use Rattle.fused_answer.proofs.plane_spots.Goals as goal
@@ -25,9 +24,6 @@ overflow_add-o c =
 pub overflow_add-o-in-loop-i : goal.overflow_add-o-in-loop-i
 overflow_add-o-in-loop-i c =
     omega (arith, spotting_fits _ _ _ _ _ _ _ c.loop-i.invariant c.loop-i-test.true c.requires.0, c.well_formed.1.1.0)
-
-pub loop-i-smaller : goal.loop-i-smaller
-loop-i-smaller c = omega (arith, c.loop-i-test.true)
 
 pub loop-i-preserved : goal.loop-i-preserved
 loop-i-preserved c = spotting_turn _ _ _ _ _ _ _ c.loop-i.invariant c.loop-i-test.true c.requires.0

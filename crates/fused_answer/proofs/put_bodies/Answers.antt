@@ -1,4 +1,3 @@
-use Prim.Native.Nat.{◌-◌}
 use Rattle.fused_answer.specs.Bodies.{bodying_start, bodying_shells, bodying_placing, bodying_inside, bodying_turn, bodying_end}
 use native.Mathlib.Omega.{arith}
 use Rattle.fused_answer.proofs.put_bodies.Goals as goal
@@ -30,18 +29,6 @@ overflow_add-j c =
     let L = c.loop-i in
     let h = c.loop-i-test.true in
     omega (arith, bodying_shells _ _ _ _ _ _ _ _ _ _ _ _ _ _ _ _ L.invariant h c.requires.2, c.well_formed.1.1.1.1.1.1.1.0)
-
-pub overflow_add-i : goal.overflow_add-i
-overflow_add-i c =
-    let L = c.loop-i in
-    let h = c.loop-i-test.true in
-    omega (arith, h, c.requires.2, c.well_formed.1.1.1.1.1.1.1.1.0)
-
-pub loop-i-smaller : goal.loop-i-smaller
-loop-i-smaller c =
-    let L = c.loop-i in
-    let h = c.loop-i-test.true in
-    omega (arith, h)
 
 pub loop-i-preserved : goal.loop-i-preserved
 loop-i-preserved c =

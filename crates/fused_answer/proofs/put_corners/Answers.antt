@@ -1,4 +1,4 @@
-use Prim.Native.Nat.{◌+◌, ◌-◌}
+use Prim.Native.Nat.{◌+◌}
 use Rattle.writer.specs.Rows.{numbers_start, numbers_end}
 use Rattle.fused_answer.specs.Laws.{corner_turn}
 use native.Mathlib.Omega.{arith}

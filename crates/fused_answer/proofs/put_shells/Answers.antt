@@ -1,4 +1,3 @@
-use Prim.Native.Nat.{◌-◌}
 use Rattle.fused_answer.specs.Bodies.{lent_in, shelling_start, shelling_fits, shelling_inside, shelling_turn, shelling_end}
 use native.Mathlib.Omega.{arith}
 use Rattle.fused_answer.proofs.put_shells.Goals as goal
@@ -73,18 +72,6 @@ overflow_add-q-in-loop-j c =
     let h = c.loop-j-test.true in
     let l = shelling_fits _ _ _ _ _ _ _ _ _ _ _ _ _ _ _ _ _ L.invariant h c.requires.2 in
     omega (arith, l, c.well_formed.1.1.1.1.1.1.0)
-
-pub overflow_add-j : goal.overflow_add-j
-overflow_add-j c =
-    let L = c.loop-j in
-    let h = c.loop-j-test.true in
-    omega (arith, h, c.requires.2, c.well_formed.1.1.1.1.1.1.1.1.0)
-
-pub loop-j-smaller : goal.loop-j-smaller
-loop-j-smaller c =
-    let L = c.loop-j in
-    let h = c.loop-j-test.true in
-    omega (arith, h)
 
 pub loop-j-preserved : goal.loop-j-preserved
 loop-j-preserved c =

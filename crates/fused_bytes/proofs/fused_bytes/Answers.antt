@@ -11,7 +11,7 @@ put_listing-requires c =
     let h = c.requires in
     let l = c.requires.1 in
     let g = c.fuse_list-y in
-    λ v. listing_printable h.0 _ g.ensures l.points l.cycles l.starts l.owners _ _ l.low (omega (arith, l.corners, g.auto.corners)) h.3 v
+    λ m v. listing_printable h.0 _ g.ensures l.points l.cycles l.starts l.owners m v _ _ l.low (omega (arith, l.corners, g.auto.corners)) h.3
 
 pub shape_of-sizes : goal.shape_of-sizes
 shape_of-sizes c = c.fuse_list-y.auto.sizes

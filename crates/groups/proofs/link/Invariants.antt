@@ -3,6 +3,3 @@ use Rattle.groups.proofs.link.Given as goal
 
 abbrev pub invariant-loop-e : goal.invariant-loop-e
 invariant-loop-e l = Linking l.ends l.all l.initial.head l.initial.next l.head l.next l.e
-
-abbrev pub decreases-loop-e : goal.decreases-loop-e
-decreases-loop-e l = l.e

@@ -1,9 +1,7 @@
-use Prim.Native.Nat.{◌-◌}
-use mathlib.Core.Path.{◌∙◌}
 use lib.ListN.{set, length-set}
 use Rattle.sums.specs.Sum.{open_le}
 use Rattle.groups.specs.Chain.{around}
-use Rattle.groups.specs.Walk.{going_start, going_turn, going_stop, going_node, opened, root_room, popped}
+use Rattle.groups.specs.Walk.{going_start, going_turn, going_stop, opened, root_room}
 use borrow.Author.Rules.{rules}
 use native.Mathlib.Omega.{arith}
 use Rattle.groups.proofs.walk_from.Goals as goal
@@ -18,20 +16,8 @@ loop-top-init c =
     (root_room a.seen.now a.work.now a.root s.requires.root_in_bounds.0 s.requires.root_in_bounds.1 s.requires.root_in_bounds.2)
     (omega (arith, z, s.requires.root_in_bounds.3))
 
-pub spread-top-requires : goal.spread-top-requires
-spread-top-requires c = let s = c in
-    let l = c.loop-top in
-    let t = c.loop-top-test.true in
-    record { net = (rw (l.invariant.flags, length-set s.args.seen.now s.args.root 1) s.requires.net, going_node _ _ _ _ _ _ _ _ _ _ _ t l.invariant); room = popped _ _ _ t l.invariant.room }
-
 pub loop-top-preserved : goal.loop-top-preserved
 loop-top-preserved c = search (rules, going_turn)
-
-pub shape_of-seen : goal.shape_of-seen
-shape_of-seen c = let a = c.args in c.loop-top.invariant.flags ∙ length-set a.seen.now a.root 1
-
-pub shape_of-work : goal.shape_of-work
-shape_of-work c = let a = c.args in c.loop-top.invariant.size_w ∙ length-set a.work.now 0 a.root
 
 pub returns : goal.returns
 returns c = search (rules, going_stop)

@@ -1,4 +1,3 @@
-use Prim.Native.Nat.{◌-◌}
 use native.Mathlib.Omega.{arith}
 use Rattle.hollow.specs.Laws.{counting_start, counting_few, counting_step, counting_end, counting_all}
 use Rattle.hollow.proofs.corners_of.Goals as goal

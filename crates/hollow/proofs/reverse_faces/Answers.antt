@@ -1,5 +1,6 @@
-use mathlib.Core.Path.{refl, ◌∙◌}
-use Prim.Native.Nat.{◌-◌}
+use Rattle.std.specs.Prelude.{Err}
+use borrow.Author.Rules.{rules}
+use mathlib.Core.Path.{◌≡◌, refl, ◌∙◌}
 use native.Mathlib.Omega.{arith}
 use Rattle.offset.specs.Laws.{listing_size, listing_slots, face_not}
 use Rattle.hollow.specs.Laws.{reversing_start, reversing_inside, reversing_fits, reversing_step, reversing_stop, reversing_end}
@@ -9,41 +10,22 @@ pub loop-j-init : goal.loop-j-init
 loop-j-init c =
     reversing_start c.requires.0 c.requires.1
 
-pub overflow_add-c : goal.overflow_add-c
-overflow_add-c c =
-    omega (arith, c.requires.0.listed, c.loop-j-test.true, c.well_formed)
-
-pub offset_bounds-counts-first : goal.offset_bounds-counts-first
-offset_bounds-counts-first c =
-    omega (arith, c.requires.0.listed, c.loop-j-test.true, c.well_formed)
-
-pub bounds-counts-first : goal.bounds-counts-first
-bounds-counts-first c =
-    omega (arith, c.requires.0.listed, c.loop-j-test.true)
-
-pub reverse_face-v-requires : goal.reverse_face-v-requires
-reverse_face-v-requires c =
+pub reverse_face-requires : goal.reverse_face-requires
+reverse_face-requires c =
     (reversing_inside c.loop-j.invariant c.requires.0 c.loop-j-test.true, reversing_fits c.loop-j.invariant c.requires.0 c.loop-j-test.true)
 
-pub shape_of-dst-in-Refused : goal.shape_of-dst-in-Refused
-shape_of-dst-in-Refused c =
-    (face_not _ _ _ _ _ _ c.reverse_face-v.ensures c.in-Refused.is).1 ∙ listing_size c.loop-j.invariant.listing
+pub shape_of-dst-in_err-reverse_face : goal.shape_of-dst-in_err-reverse_face
+shape_of-dst-in_err-reverse_face c =
+    (face_not _ _ _ _ _ _ c.reverse_face.ensures c.in_err-reverse_face.was).1 ∙ listing_size c.loop-j.invariant.listing
 
-pub shape_of-sizes-in-Refused : goal.shape_of-sizes-in-Refused
-shape_of-sizes-in-Refused c =
+pub shape_of-sizes-in_err-reverse_face : goal.shape_of-sizes-in_err-reverse_face
+shape_of-sizes-in_err-reverse_face c =
     listing_slots c.loop-j.invariant.listing
 
-pub returns-in-Refused : goal.returns-in-Refused
-returns-in-Refused c =
-    reversing_stop c.loop-j.invariant c.requires.0 c.loop-j-test.true _ _ _ _ c.reverse_face-v.ensures c.in-Refused.is refl
-
-pub overflow_add-sizes : goal.overflow_add-sizes
-overflow_add-sizes c =
-    omega (arith, c.requires.1.slots, c.loop-j-test.true, c.well_formed)
-
-pub offset_bounds-sizes-k : goal.offset_bounds-sizes-k
-offset_bounds-sizes-k c =
-    omega (arith, c.requires.1.slots, c.loop-j-test.true, c.well_formed)
+pub returns-in_err-reverse_face : goal.returns-in_err-reverse_face
+returns-in_err-reverse_face c =
+    let told : c.from_residual.result ≡ Err c.in_err-reverse_face.field-0.0 = search rules in
+    reversing_stop c.loop-j.invariant c.requires.0 c.loop-j-test.true _ _ _ _ c.reverse_face.ensures c.in_err-reverse_face.was told
 
 pub bounds-sizes-k : goal.bounds-sizes-k
 bounds-sizes-k c =
@@ -73,13 +55,9 @@ pub overflow_add-q-in-loop-j : goal.overflow_add-q-in-loop-j
 overflow_add-q-in-loop-j c =
     omega (arith, reversing_fits c.loop-j.invariant c.requires.0 c.loop-j-test.true, listing_size c.loop-j.invariant.listing, c.well_formed)
 
-pub overflow_add-j : goal.overflow_add-j
-overflow_add-j c =
-    omega (arith, c.loop-j-test.true, c.requires.0.listed, c.well_formed)
-
 pub loop-j-preserved : goal.loop-j-preserved
 loop-j-preserved c =
-    reversing_step c.loop-j.invariant c.requires.0 c.loop-j-test.true _ _ _ c.reverse_face-v.ensures c.in-Fine.is refl
+    reversing_step c.loop-j.invariant c.requires.0 c.loop-j-test.true _ _ _ c.reverse_face.ensures c.in_ok-reverse_face.was refl
 
 pub shape_of-dst : goal.shape_of-dst
 shape_of-dst c = listing_size c.loop-j.invariant.listing

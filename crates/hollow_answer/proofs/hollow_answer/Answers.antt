@@ -8,66 +8,66 @@ offset-v-requires c =
 
 pub shell_answer-requires : goal.shell_answer-requires
 shell_answer-requires c =
-    hollow_cavity _ c.args.limit c.args.w c.requires _ _ _ c.offset-v.ensures c.in-Fine.is _ _ _ c.offset-v.auto.points c.offset-v.auto.places c.offset-v.auto.moved
+    hollow_cavity _ c.args.limit c.args.w c.requires _ _ _ c.offset-v.ensures c.in-Ok.is _ _ _ c.offset-v.auto.points c.offset-v.auto.places c.offset-v.auto.moved
 
-pub shape_of-by-in-Refused : goal.shape_of-by-in-Refused
-shape_of-by-in-Refused c =
+pub shape_of-by-in-Err : goal.shape_of-by-in-Err
+shape_of-by-in-Err c =
     c.offset-v.auto.by
 
-pub shape_of-points-in-Refused : goal.shape_of-points-in-Refused
-shape_of-points-in-Refused c =
+pub shape_of-points-in-Err : goal.shape_of-points-in-Err
+shape_of-points-in-Err c =
     c.offset-v.auto.points
 
-pub shape_of-places-in-Refused : goal.shape_of-places-in-Refused
-shape_of-places-in-Refused c =
+pub shape_of-places-in-Err : goal.shape_of-places-in-Err
+shape_of-places-in-Err c =
     c.offset-v.auto.places
 
-pub shape_of-moved-in-Refused : goal.shape_of-moved-in-Refused
-shape_of-moved-in-Refused c =
+pub shape_of-moved-in-Err : goal.shape_of-moved-in-Err
+shape_of-moved-in-Err c =
     c.offset-v.auto.moved
 
-pub shape_of-dst-in-Refused : goal.shape_of-dst-in-Refused
-shape_of-dst-in-Refused c =
+pub shape_of-dst-in-Err : goal.shape_of-dst-in-Err
+shape_of-dst-in-Err c =
     c.offset-v.auto.dst
 
-pub shape_of-sizes-in-Refused : goal.shape_of-sizes-in-Refused
-shape_of-sizes-in-Refused c =
+pub shape_of-sizes-in-Err : goal.shape_of-sizes-in-Err
+shape_of-sizes-in-Err c =
     c.offset-v.auto.sizes
 
-pub returns-in-Refused : goal.returns-in-Refused
-returns-in-Refused c =
-    hollow_stops _ c.args.limit c.args.w c.requires _ _ _ c.offset-v.ensures c.args.answer.now _ _ c.in-Refused.is c.stop.ensures
+pub returns-in-Err : goal.returns-in-Err
+returns-in-Err c =
+    hollow_stops _ c.args.limit c.args.w c.requires _ _ _ c.offset-v.ensures c.args.answer.now _ _ c.in-Err.is c.stop.ensures
 
-pub shape_of-s-in-Fine : goal.shape_of-s-in-Fine
-shape_of-s-in-Fine c =
+pub shape_of-s-in-Ok : goal.shape_of-s-in-Ok
+shape_of-s-in-Ok c =
     c.shell_answer.auto.s
 
-pub shape_of-counts-in-Fine : goal.shape_of-counts-in-Fine
-shape_of-counts-in-Fine c =
+pub shape_of-counts-in-Ok : goal.shape_of-counts-in-Ok
+shape_of-counts-in-Ok c =
     c.shell_answer.auto.counts
 
-pub shape_of-by-in-Fine : goal.shape_of-by-in-Fine
-shape_of-by-in-Fine c =
+pub shape_of-by-in-Ok : goal.shape_of-by-in-Ok
+shape_of-by-in-Ok c =
     c.offset-v.auto.by
 
-pub shape_of-points-in-Fine : goal.shape_of-points-in-Fine
-shape_of-points-in-Fine c =
+pub shape_of-points-in-Ok : goal.shape_of-points-in-Ok
+shape_of-points-in-Ok c =
     c.shell_answer.auto.points ∙ c.offset-v.auto.points
 
-pub shape_of-places-in-Fine : goal.shape_of-places-in-Fine
-shape_of-places-in-Fine c =
+pub shape_of-places-in-Ok : goal.shape_of-places-in-Ok
+shape_of-places-in-Ok c =
     c.shell_answer.auto.places ∙ c.offset-v.auto.places
 
-pub shape_of-moved-in-Fine : goal.shape_of-moved-in-Fine
-shape_of-moved-in-Fine c =
+pub shape_of-moved-in-Ok : goal.shape_of-moved-in-Ok
+shape_of-moved-in-Ok c =
     c.shell_answer.auto.faces ∙ c.offset-v.auto.moved
 
-pub shape_of-dst-in-Fine : goal.shape_of-dst-in-Fine
-shape_of-dst-in-Fine c =
+pub shape_of-dst-in-Ok : goal.shape_of-dst-in-Ok
+shape_of-dst-in-Ok c =
     c.offset-v.auto.dst
 
-pub shape_of-sizes-in-Fine : goal.shape_of-sizes-in-Fine
-shape_of-sizes-in-Fine c =
+pub shape_of-sizes-in-Ok : goal.shape_of-sizes-in-Ok
+shape_of-sizes-in-Ok c =
     c.offset-v.auto.sizes
 
 pub shape_of-ends : goal.shape_of-ends
@@ -102,6 +102,6 @@ pub shape_of-answer : goal.shape_of-answer
 shape_of-answer c =
     c.shell_answer.auto.answer
 
-pub returns-in-Fine : goal.returns-in-Fine
-returns-in-Fine c =
-    hollow_ends _ c.args.limit c.args.w c.requires _ _ _ c.offset-v.ensures c.in-Fine.is c.args.answer.now _ _ c.shell_answer.ensures
+pub returns-in-Ok : goal.returns-in-Ok
+returns-in-Ok c =
+    hollow_ends _ c.args.limit c.args.w c.requires _ _ _ c.offset-v.ensures c.in-Ok.is c.args.answer.now _ _ c.shell_answer.ensures

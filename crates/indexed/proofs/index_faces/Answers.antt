@@ -1,7 +1,8 @@
+use Rattle.std.proofs.lemmas.Result.{err_from_is_err_and}
+use Rattle.std.specs.Prelude.{Err}
 use borrow.Author.Rules.{rules}
-use mathlib.Core.Path.{refl, ◌∙◌}
-use Prim.Native.Nat.{◌-◌}
-use Rattle.indexed.proofs.Laws.{walking_start, walking_points, walking_places, walking_asks, walking_step, walking_stop, walking_end, placed_not}
+use mathlib.Core.Path.{refl, ap, ◌∙◌}
+use Rattle.indexed.proofs.Laws.{walking_start, walking_asks, walking_step, walking_stop, walking_end}
 use Rattle.indexed.proofs.index_faces.Goals as goal
 
 pub loop-j-init : goal.loop-j-init
@@ -12,22 +13,15 @@ overflow_add-o c =
     let a = walking_asks c.loop-j.invariant c.requires c.loop-j-test.true in
     search rules
 
-pub index_face-step-requires : goal.index_face-step-requires
-index_face-step-requires c =
+pub index_face-requires : goal.index_face-requires
+index_face-requires c =
     let a = walking_asks c.loop-j.invariant c.requires c.loop-j-test.true in
     search rules
 
-pub shape_of-points-in_default : goal.shape_of-points-in_default
-shape_of-points-in_default c =
-    (placed_not _ _ _ _ _ _ _ _ _ _ c.index_face-step.ensures c.in_default.is).1 ∙ walking_points c.loop-j.invariant c.requires
-
-pub shape_of-places-in_default : goal.shape_of-places-in_default
-shape_of-places-in_default c =
-    (placed_not _ _ _ _ _ _ _ _ _ _ c.index_face-step.ensures c.in_default.is).2 ∙ walking_places c.loop-j.invariant c.requires
-
-pub returns-in_default : goal.returns-in_default
-returns-in_default c =
-    walking_stop c.loop-j.invariant c.requires _ _ _ _ c.loop-j-test.true c.in_default.is c.index_face-step.ensures
+pub returns-in_err-m : goal.returns-in_err-m
+returns-in_err-m c =
+    let p = err_from_is_err_and c.from_residual.result c.from_residual.ensures.1 in
+    walking_stop c.loop-j.invariant c.requires _ _ _ _ _ c.loop-j-test.true c.in_err-m.was (p.1 ∙ ap Err p.2) c.index_face.ensures
 
 pub overflow_add-k : goal.overflow_add-k
 overflow_add-k c =
@@ -55,13 +49,7 @@ overflow_add-o-in-loop-j-2 c =
 
 pub loop-j-preserved : goal.loop-j-preserved
 loop-j-preserved c =
-    walking_step c.loop-j.invariant c.requires _ _ _ _ c.loop-j-test.true c.in-Made.is c.index_face-step.ensures
-
-pub shape_of-points : goal.shape_of-points
-shape_of-points c = (walking_points c.loop-j.invariant c.requires)
-
-pub shape_of-places : goal.shape_of-places
-shape_of-places c = (walking_places c.loop-j.invariant c.requires)
+    walking_step c.loop-j.invariant c.requires _ _ _ _ c.loop-j-test.true c.in_ok-m.was c.index_face.ensures
 
 pub returns : goal.returns
 returns c =

@@ -1,4 +1,4 @@
-use Prim.Native.Nat.{◌+◌, ◌-◌}
+use Prim.Native.Nat.{◌+◌}
 use Rattle.job.specs.Runs.{stands_in, run_in}
 use Rattle.intake.specs.Laws.{facing_start, facing_next, facing_end}
 use native.Mathlib.Omega.{arith}

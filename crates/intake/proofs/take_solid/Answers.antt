@@ -9,7 +9,7 @@ pub refuse_large-requires : goal.refuse_large-requires
 refuse_large-requires c = (c.requires.0, sym c.is_small.ensures ∙ not-true _ (ap not c.if-not-is_small.true))
 
 pub returns-then-not-is_small : goal.returns-then-not-is_small
-returns-then-not-is_small c = large_took _ _ _ c.requires.0 _ _ _ _ (sym c.is_small.ensures ∙ not-true _ (ap not c.if-not-is_small.true)) c.refuse_large.ensures c.taken_as.ensures
+returns-then-not-is_small c = large_took _ _ _ c.requires.0 _ _ _ (sym c.is_small.ensures ∙ not-true _ (ap not c.if-not-is_small.true)) c.refuse_large.ensures
 
 pub take_small-requires : goal.take_small-requires
 take_small-requires c =

@@ -1,11 +1,8 @@
-use Prim.Native.Nat.{◌+◌, ◌-◌}
+use Prim.Native.Nat.{◌+◌}
 use Rattle.job.specs.Runs.{stands_in, run_in}
-use Rattle.job.proofs.Turns.{face_start, face_turn, face_end}
+use Rattle.job.proofs.Turns.{face_turn, face_end}
 use native.Mathlib.Omega.{arith}
 use Rattle.job.proofs.faces_from.Goals as goal
-
-pub loop-n-init : goal.loop-n-init
-loop-n-init c = face_start _ _
 
 pub overflow_add-at : goal.overflow_add-at
 overflow_add-at c = omega (arith, stands_in c.args.job.now c.loop-n.at 3 0 c.stands.result c.stands.ensures c.loop-n-test.true)

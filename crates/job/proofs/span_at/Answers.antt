@@ -1,7 +1,6 @@
 use native.Mathlib.Omega.{arith}
 use Prim.Native.Nat.{◌+◌, ◌*◌}
 use Rattle.job.specs.Runs.{run_in, faces_in}
-use Rattle.job.proofs.Answers.{span_all}
 use Rattle.job.proofs.span_at.Goals as goal
 
 pub overflow_mul-middle : goal.overflow_mul-middle
@@ -18,6 +17,3 @@ overflow_mul-f c = omega (arith, run_in c.args.job.now c.args.start 2 24 c.run-p
 
 pub overflow_add-middle-3 : goal.overflow_add-middle-3
 overflow_add-middle-3 c = omega (arith, run_in c.args.job.now c.args.start 2 24 c.run-points.result c.run-points.ensures, faces_in c.args.job.now (c.args.start + 25 * c.run-points.result) c.faces_from-f.result c.faces_from-f.ensures)
-
-pub returns : goal.returns
-returns c = span_all _ _ _ _ _ c.run-points.ensures c.faces_from-f.ensures c.span_end.ensures

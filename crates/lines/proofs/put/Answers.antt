@@ -1,13 +1,13 @@
-use Prim.Native.Nat.{◌-◌}
-use Rattle.lines.specs.Turns.{copying_start, copying_turn, copying_end}
-use borrow.Author.Rules.{rules}
+use mathlib.Core.Path.{◌≡◌, refl}
+use Prim.Native.Nat.{◌+◌, ◌-◌}
+use native.Mathlib.Omega.{arith}
+use lib.ListN.{length}
+use Rattle.std.proofs.Common.{append_assoc, drop-drop}
+use Rattle.std.proofs.lemmas.List.Edits.{sets-eq}
 use Rattle.lines.proofs.put.Goals as goal
 
-pub loop-i-init : goal.loop-i-init
-loop-i-init c = copying_start _ _ _
-
-pub loop-i-preserved : goal.loop-i-preserved
-loop-i-preserved c = search (rules, copying_turn)
-
-pub returns : goal.returns
-returns c = search (rules, copying_end)
+pub returns-clause-out_after : goal.returns-clause-out_after
+returns-clause-out_after c =
+    let k : c.args.at + length c.args.text.now - c.args.at ≡ length c.args.text.now = omega arith in
+    let e = sets-eq c.args.text.now c.args.out.now c.args.at c.requires in
+    rw (k, c.copy_from_slice.ensures.after, e, drop-drop, append_assoc) refl

@@ -1,4 +1,3 @@
-use Prim.Native.Nat.{◌-◌}
 use Rattle.lines.specs.Turns.{printing_start, printing_turn, printing_end}
 use borrow.Author.Rules.{rules}
 use Rattle.lines.proofs.put_lines.Goals as goal

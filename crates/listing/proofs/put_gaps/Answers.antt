@@ -1,4 +1,3 @@
-use Prim.Native.Nat.{◌-◌}
 use Rattle.listing.specs.Appended.{gapping_start, gapping_size, gapping_room, gapping_step, gapping_end}
 use borrow.Author.Rules.{rules}
 use Rattle.listing.proofs.put_gaps.Goals as goal

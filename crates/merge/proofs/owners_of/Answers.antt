@@ -1,10 +1,6 @@
 use borrow.Author.Rules.{rules}
-use Prim.Native.Nat.{◌-◌}
-use Rattle.merge.specs.Laws.{owning_start, owning_room, owning_step, owning_end}
+use Rattle.merge.specs.Laws.{owning_room, owning_step, owning_end}
 use Rattle.merge.proofs.owners_of.Goals as goal
-
-pub loop-i-init : goal.loop-i-init
-loop-i-init c = owning_start _ _ _
 
 pub fill-requires : goal.fill-requires
 fill-requires c =

@@ -1,13 +1,9 @@
 use borrow.Author.Rules.{rules}
 use mathlib.Core.Path.{sym, ◌∙◌}
-use mathlib.Core.Bool.{true}
-use Prim.Native.Nat.{◌-◌, ◌/◌}
+use Prim.Native.Nat.{◌/◌}
 use lib.ListN.{length}
-use Rattle.mesh.specs.Laws.{finite_start, finite_go, finite_end}
+use Rattle.mesh.specs.Laws.{finite_go, finite_end}
 use Rattle.mesh.proofs.are_finite.Goals as goal
-
-pub loop-i-init : goal.loop-i-init
-loop-i-init c = let s = c.args.s.now in (search rules, finite_start s (length s / 3))
 
 pub loop-i-preserved : goal.loop-i-preserved
 loop-i-preserved c =

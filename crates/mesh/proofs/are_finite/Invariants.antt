@@ -8,6 +8,3 @@ use Rattle.mesh.proofs.are_finite.Given as goal
 
 abbrev pub invariant-loop-i : goal.invariant-loop-i
 invariant-loop-i l = (l.i ≤ l.n) × (all finite_point l.fair (points_at l.s (3 * l.i) (l.n - l.i)) ≡ all finite_point true (points_at l.s 0 l.n))
-
-abbrev pub decreases-loop-i : goal.decreases-loop-i
-decreases-loop-i l = l.n - l.i

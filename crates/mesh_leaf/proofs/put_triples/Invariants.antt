@@ -1,12 +1,9 @@
 use mathlib.Core.Path.{◌≡◌}
-use Prim.Native.Nat.{◌-◌, ◌*◌, ◌≤◌}
+use Prim.Native.Nat.{◌*◌}
 use lib.ListN.{length, drop}
 use lib.Seq.{sets}
 use Rattle.mesh_leaf.specs.Drawing.{triangles_in, places}
 use Rattle.mesh_leaf.proofs.put_triples.Given as goal
 
 abbrev pub invariant-loop-i : goal.invariant-loop-i
-invariant-loop-i l = (l.i ≤ l.n) × (l.o ≡ 3 * l.i) × (length l.out ≡ length l.initial.out) × (sets l.out l.o (places (drop l.i (triangles_in l.t))) ≡ sets l.initial.out 0 (places (triangles_in l.t)))
-
-abbrev pub decreases-loop-i : goal.decreases-loop-i
-decreases-loop-i l = l.n - l.i
+invariant-loop-i l = (length l.out ≡ length l.initial.out) × (sets l.out (3 * l.i) (places (drop l.i (triangles_in l.t))) ≡ sets l.initial.out 0 (places (triangles_in l.t)))

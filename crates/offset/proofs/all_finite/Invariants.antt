@@ -1,13 +1,9 @@
 use mathlib.Core.Path.{◌≡◌}
 use mathlib.Core.Bool.{true}
-use Prim.Native.Nat.{◌-◌, ◌≤◌}
 use lib.ListN.{take, drop}
 use Rattle.float.specs.Float.{finite}
 use Rattle.lists.specs.Walks.{all}
 use Rattle.offset.proofs.all_finite.Given as goal
 
 abbrev pub invariant-loop-j : goal.invariant-loop-j
-invariant-loop-j l = (l.j ≤ l.n) × (all finite l.fine (drop l.j (take l.n l.by)) ≡ all finite true (take l.n l.by))
-
-abbrev pub decreases-loop-j : goal.decreases-loop-j
-decreases-loop-j l = l.n - l.j
+invariant-loop-j l = all finite l.fine (drop l.j (take l.n l.by)) ≡ all finite true (take l.n l.by)

@@ -1,4 +1,6 @@
-use mathlib.Core.Path.{refl, sym, ◌∙◌}
+use Rattle.std.specs.Prelude.{Err}
+use borrow.Author.Rules.{rules}
+use mathlib.Core.Path.{◌≡◌, refl, sym, ◌∙◌}
 use borrow.Author.Tests.{not-true, not-false}
 use Rattle.offset.specs.Whole.{index_source, index_few, index_not, index_moved, not_finite}
 use mathlib.Core.Path.{ap}
@@ -11,13 +13,14 @@ returns-then-not-all_finite c =
 
 pub move_all-requires : goal.move_all-requires
 move_all-requires c =
-    let few = index_few c.requires _ _ _ _ c.indexed-found.ensures _ c.in-Made.is in
-    (index_source c.requires _ _ _ _ c.indexed-found.ensures _ c.in-Made.is, few.0, few.1, c.requires.place)
+    let few = index_few c.requires _ _ _ _ c.indexed.ensures _ c.in_ok-m.was in
+    (index_source c.requires _ _ _ _ c.indexed.ensures _ c.in_ok-m.was, few.0, few.1, c.requires.place)
 
-pub returns-in-Refused : goal.returns-in-Refused
-returns-in-Refused c =
-    index_not c.requires _ _ _ _ c.indexed-found.ensures _ _ c.in-Refused.is refl (sym c.all_finite.ensures ∙ not-false _ (ap not c.if-not-all_finite.false))
+pub returns-in_err-m : goal.returns-in_err-m
+returns-in_err-m c =
+    let told : c.from_residual.result ≡ Err c.in_err-m.field-0.0 = search rules in
+    index_not c.requires _ _ _ _ c.indexed.ensures _ _ c.in_err-m.was told (sym c.all_finite.ensures ∙ not-false _ (ap not c.if-not-all_finite.false))
 
-pub returns-in-Made : goal.returns-in-Made
-returns-in-Made c =
-    index_moved c.requires _ _ _ _ c.indexed-found.ensures _ _ _ _ c.in-Made.is (sym c.all_finite.ensures ∙ not-false _ (ap not c.if-not-all_finite.false)) c.move_all.ensures
+pub returns : goal.returns
+returns c =
+    index_moved c.requires _ _ _ _ c.indexed.ensures _ _ _ _ c.in_ok-m.was (sym c.all_finite.ensures ∙ not-false _ (ap not c.if-not-all_finite.false)) c.move_all.ensures

@@ -1,6 +1,6 @@
 use mathlib.Core.Path.{◌≡◌}
 use mathlib.Core.List.{List, []}
-use Prim.Native.Nat.{ℕ, ◌-◌, ◌≤◌}
+use Prim.Native.Nat.{ℕ, ◌≤◌}
 use lib.ListN.{length}
 use lib.Ieee.{Float}
 use Rattle.refusal.specs.Outcome.{each}
@@ -22,6 +22,3 @@ pub record Held (w : Plane) (s : List Float) (n : ℕ) (out : Outline) (i : ℕ)
 
 abbrev pub invariant-loop-i : goal.invariant-loop-i
 invariant-loop-i l = Held l.plane l.s l.n l.out l.i
-
-abbrev pub decreases-loop-i : goal.decreases-loop-i
-decreases-loop-i l = l.n - l.i

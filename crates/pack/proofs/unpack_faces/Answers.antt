@@ -1,5 +1,5 @@
 use native.Mathlib.Omega.{arith}
-use Prim.Native.Nat.{◌+◌, ◌-◌}
+use Prim.Native.Nat.{◌+◌}
 use Rattle.job.specs.Runs.{stands_in, run_in}
 use Rattle.pack.proofs.Turns.{face_start, face_room, face_turn, counts_end, indices_end}
 use Rattle.pack.proofs.unpack_faces.Goals as goal

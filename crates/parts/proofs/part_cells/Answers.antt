@@ -1,3 +1,5 @@
+use Rattle.std.specs.Prelude.{◌≡◌, Err}
+use borrow.Author.Rules.{rules}
 use native.Mathlib.Omega.{arith}
 use mathlib.Core.Path.{sym, ◌∙◌}
 use Prim.Native.Nat.{◌*◌}
@@ -19,57 +21,44 @@ sort_keys-requires c =
     let K = c.make_keys in
     (keys_starts a.v.now a.starts.now a.owners.now a.f a.n _ _ c.requires.starts.0 r.keys K.auto.k, r.order)
 
-pub meet_facets-m-requires : goal.meet_facets-m-requires
-meet_facets-m-requires c = let a = c.args in
+pub meet_facets-requires : goal.meet_facets-requires
+meet_facets-requires c = let a = c.args in
     let r = c.requires.places in
     let K = c.make_keys in
     let S = c.sort_keys in
     record { starts = (c.requires.starts.0, c.requires.starts.1, keys_starts a.v.now a.starts.now a.owners.now a.f a.n _ _ c.requires.starts.0 r.keys K.auto.k, rims_ordered _ _ _ _ _ r.order S.ensures); f_value = (keys_rows a.v.now a.starts.now a.owners.now a.f a.n _ _ K.ensures, r.listed, r.pairs) }
 
-pub shape_of-k-in_default : goal.shape_of-k-in_default
-shape_of-k-in_default c = c.make_keys.auto.k
+pub returns-in_err-m : goal.returns-in_err-m
+returns-in_err-m c =
+    let a = c.args in
+    let told : c.from_residual.result ≡ Err c.in_err-m.field-0.0 = search rules in
+    part_refused a.v.now a.starts.now a.owners.now a.f a.n _ _ _ c.meet_facets.ensures _ _ _ _ _ _ c.in_err-m.was told
 
-pub shape_of-ord-in_default : goal.shape_of-ord-in_default
-shape_of-ord-in_default c = c.sort_keys.auto.ord
-
-pub shape_of-ext-in_default : goal.shape_of-ext-in_default
-shape_of-ext-in_default c = c.meet_facets-m.auto.ext
-
-pub shape_of-ends-in_default : goal.shape_of-ends-in_default
-shape_of-ends-in_default c = c.meet_facets-m.auto.ends
-
-pub returns-in_default : goal.returns-in_default
-returns-in_default c =
+pub overflow_mul-m : goal.overflow_mul-m
+overflow_mul-m c =
     let a = c.args in
     let r = c.requires.places in
-    let M = c.meet_facets-m in
-    part_refused a.v.now a.starts.now a.owners.now a.f a.n _ _ _ M.ensures _ _ _ _ _ c.in_default.is
-
-pub overflow_mul-p : goal.overflow_mul-p
-overflow_mul-p c =
-    let a = c.args in
-    let r = c.requires.places in
-    let M = c.meet_facets-m in
-    let t = c.in-Fine.is in
-    let h = M.ensures.half t in
+    let M = c.meet_facets in
+    let t = c.in_ok-m.was in
+    let h = M.ensures.half c.in_ok-m.m t in
     record { fits = omega (arith, h, M.auto.ends, c.well_formed.1.1.1.1.1.1.1.1.0) }
 
 pub slice_bounds-components-end : goal.slice_bounds-components-end
 slice_bounds-components-end c =
     let a = c.args in
     let r = c.requires.places in
-    let M = c.meet_facets-m in
-    let t = c.in-Fine.is in
-    let h = M.ensures.half t in
+    let M = c.meet_facets in
+    let t = c.in_ok-m.was in
+    let h = M.ensures.half c.in_ok-m.m t in
     h
 
 pub slice_bounds-components-end-2 : goal.slice_bounds-components-end-2
 slice_bounds-components-end-2 c =
     let a = c.args in
     let r = c.requires.places in
-    let M = c.meet_facets-m in
-    let t = c.in-Fine.is in
-    let h = M.ensures.half t in
+    let M = c.meet_facets in
+    let t = c.in_ok-m.was in
+    let h = M.ensures.half c.in_ok-m.m t in
     sym (length-take-le _ _ h)
 
 pub slice_bounds-components-end-3 : goal.slice_bounds-components-end-3
@@ -101,13 +90,13 @@ components-groups-requires c = let a = c.args in
     let r = c.requires.places in
     let K = c.make_keys in
     let S = c.sort_keys in
-    let M = c.meet_facets-m in
-    let t = c.in-Fine.is in
-    let h = M.ensures.half t in
-    let e = length-take-le (2 * M.result.pairs) M.new.ends h in
+    let M = c.meet_facets in
+    let t = c.in_ok-m.was in
+    let h = M.ensures.half c.in_ok-m.m t in
+    let e = length-take-le (2 * c.in_ok-m.m.pairs) M.new.ends h in
     let l = length-take-le a.n a.d.now r.heads in
     let s = length-take-le a.n a.s.now r.flags in
-    record { within = (part_within a.v.now a.starts.now a.owners.now a.f a.n _ _ _ M.ensures t _ r.flags c.requires.starts.2, l ∙ sym s, omega (arith, e, h, M.auto.ends, K.auto.k, r.links)); seen_in_bounds = (omega (arith, s, r.cuts), omega (arith, s, r.stack, S.auto.ord), omega (arith, s, r.cells)) }
+    record { within = (part_within a.v.now a.starts.now a.owners.now a.f a.n _ _ _ M.ensures c.in_ok-m.m t _ r.flags c.requires.starts.2, l ∙ sym s, omega (arith, e, h, M.auto.ends, K.auto.k, r.links)); seen_in_bounds = (omega (arith, s, r.cuts), omega (arith, s, r.stack, S.auto.ord), omega (arith, s, r.cells)) }
 
 pub shape_of-k : goal.shape_of-k
 shape_of-k c =
@@ -126,10 +115,10 @@ shape_of-ord c =
     C.auto.work ∙ S.auto.ord
 
 pub shape_of-ext : goal.shape_of-ext
-shape_of-ext c = c.meet_facets-m.auto.ext
+shape_of-ext c = c.meet_facets.auto.ext
 
 pub shape_of-ends : goal.shape_of-ends
-shape_of-ends c = c.meet_facets-m.auto.ends
+shape_of-ends c = c.meet_facets.auto.ends
 
 pub shape_of-d : goal.shape_of-d
 shape_of-d c =
@@ -155,7 +144,7 @@ pub returns : goal.returns
 returns c =
     let a = c.args in
     let r = c.requires.places in
-    let M = c.meet_facets-m in
+    let M = c.meet_facets in
     let C = c.components-groups in
-    let t = c.in-Fine.is in
-    part_made a.v.now a.starts.now a.owners.now a.f a.n _ _ _ M.ensures t a.s.now r.flags _ _ _ _ _ C.ensures.classes
+    let t = c.in_ok-m.was in
+    part_made a.v.now a.starts.now a.owners.now a.f a.n _ _ _ M.ensures c.in_ok-m.m t a.s.now r.flags _ _ _ _ _ C.ensures.classes

@@ -1,8 +1,9 @@
-use mathlib.Core.Path.{◌≡◌, sym, ap, ◌∙◌}
+use Rattle.std.specs.Prelude.{Ok, Err, ◌≡◌}
+use mathlib.Core.Path.{sym, ap, ◌∙◌}
 use native.Mathlib.Omega.{arith}
-use Prim.Native.Nat.{◌-◌, ◌≤◌}
+use Prim.Native.Nat.{◌≤◌}
 use lib.ListN.{length}
-use Rattle.space.specs.declared.Closeness.TheVariants.{Refused}
+use Rattle.std.proofs.Common.{rules}
 use Rattle.polygon.specs.Polygons.{made}
 use Rattle.polygon.specs.Unique.{unique}
 use Rattle.polygon.proofs.Turns.{scanned_start, scanned_step, scanned_end, points_start, kept_near, kept_apart, kept_refused, kept_end, room, all_points, point_here}
@@ -21,25 +22,30 @@ loop-j-preserved c =
     let h : c.loop-i.m ≤ length c.loop-i.out.at = omega (arith, room I, I.few, I.low, I.small) in
     rw c.compared-s.ensures (scanned_step c.loop-j.invariant c.loop-j-test.true h)
 
-pub returns-in-Refused : goal.returns-in-Refused
+pub returns-in_err-s-clause-value : goal.returns-in_err-s-clause-value
 unfolding made
-returns-in-Refused c = let A = c.args in
-    let told : c.loop-j.s ≡ Refused c.in-Refused.r = cc in
-    let e = kept_refused c.loop-i.invariant c.get_point-q.result (c.get_point-q.ensures ∙ point_here c.args.points.now c.args.at c.args.n c.loop-i.i c.loop-i-test.true) c.loop-i-test.true (sym told ∙ scanned_end c.loop-j.invariant c.loop-j-test.false) in
-    let o = c.none.ensures ∙ ap made (sym e ∙ ap (unique A.t) (all_points A.points.now A.at A.n)) in
-    record { value = o; n_bound = omega (arith, ap (λ r. r.polygon.n) c.none.ensures) }
+returns-in_err-s-clause-value c =
+    let A = c.args in
+    let told : c.from_residual.result ≡ Err c.in_err-s.field-0.0 = search rules in
+    let e = kept_refused c.loop-i.invariant c.get_point-q.result (c.get_point-q.ensures ∙ point_here c.args.points.now c.args.at c.args.n c.loop-i.i c.loop-i-test.true) c.loop-i-test.true (sym c.in_err-s.was ∙ scanned_end c.loop-j.invariant c.loop-j-test.false) in
+    told ∙ ap made (sym e ∙ ap (unique A.t) (all_points A.points.now A.at A.n))
 
 pub loop-i-preserved : goal.loop-i-preserved
 loop-i-preserved c =
     let I = c.loop-i.invariant in
     let h = c.loop-i-test.true in
+    let A = c.args in
     let e = scanned_end c.loop-j.invariant c.loop-j-test.false in
-    elim c.match-s.branch [
-      | in-Near w ↦ rw (w.out-is, w.m-is) (kept_near I c.get_point-q.result (c.get_point-q.ensures ∙ point_here c.args.points.now c.args.at c.args.n c.loop-i.i c.loop-i-test.true) h (sym w.in-Near.is ∙ e))
-      | in-Apart w ↦ rw (w.out-is, w.m-is) (kept_apart I c.get_point-q.result (c.get_point-q.ensures ∙ point_here c.args.points.now c.args.at c.args.n c.loop-i.i c.loop-i-test.true) h (sym w.in-Apart.is ∙ e))
+    let at = c.get_point-q.ensures ∙ point_here A.points.now A.at A.n c.loop-i.i h in
+    elim c.match-branch-2.branch [
+      | in-Near w ↦ rw (w.out-is, w.m-is) (kept_near I c.get_point-q.result at h (sym (c.in_ok-s.was ∙ ap Ok w.in-Near.is) ∙ e))
+      | in-Apart w ↦ rw (w.out-is, w.m-is) (kept_apart I c.get_point-q.result at h (sym (c.in_ok-s.was ∙ ap Ok w.in-Apart.is) ∙ e))
     ]
 
-pub returns : goal.returns
-returns c = let I = c.loop-i.invariant in
+pub returns-clause-value : goal.returns-clause-value
+returns-clause-value c =
     let A = c.args in
-    record { value = kept_end I c.loop-i-test.false ∙ ap (λ l. made (unique A.t l)) (all_points A.points.now A.at A.n); n_bound = omega (arith, I.few, I.low, I.small) }
+    kept_end c.loop-i.invariant c.loop-i-test.false ∙ ap (λ l. made (unique A.t l)) (all_points A.points.now A.at A.n)
+
+pub returns-clause-n_bound : goal.returns-clause-n_bound
+returns-clause-n_bound c = let I = c.loop-i.invariant in omega (arith, I.few, I.low, I.small)

@@ -1,4 +1,3 @@
-use Prim.Native.Nat.{◌-◌}
 use Rattle.polygon.specs.Memory.{points_at}
 use Rattle.polygon.proofs.Turns.{Scanned, Kept}
 use Rattle.polygon.proofs.unique.Given as goal
@@ -6,11 +5,5 @@ use Rattle.polygon.proofs.unique.Given as goal
 abbrev pub invariant-loop-j : goal.invariant-loop-j
 invariant-loop-j l = Scanned l.t l.q l.out.at l.m l.s l.j
 
-abbrev pub decreases-loop-j : goal.decreases-loop-j
-decreases-loop-j l = l.m - l.j
-
 abbrev pub invariant-loop-i : goal.invariant-loop-i
 invariant-loop-i l = Kept l.t (points_at l.points l.at l.n) l.n l.out.at l.m l.i
-
-abbrev pub decreases-loop-i : goal.decreases-loop-i
-decreases-loop-i l = l.n - l.i

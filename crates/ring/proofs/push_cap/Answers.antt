@@ -1,13 +1,12 @@
-use Rattle.ring.specs.Laws.{cap_stays, cap_refused, cap_pushed}
+use Rattle.std.specs.Prelude.{Err, ◌≡◌}
+use Rattle.std.proofs.Common.{rules}
+use Rattle.ring.specs.Laws.{cap_refused, cap_pushed}
 use Rattle.ring.proofs.push_cap.Goals as goal
 
-pub returns-in_default : goal.returns-in_default
-returns-in_default c = cap_stays _ _ _ _ c.requires.0 c.requires.1 c.in_default.is
-
-pub returns-then-caps-ge1024 : goal.returns-then-caps-ge1024
-returns-then-caps-ge1024 c =
-    cap_refused _ _ _ _ c.requires.0 c.requires.1 c.in-Fine.is c.if-caps-ge1024.true c.refuse-r.ensures
+pub returns-in_err-caps : goal.returns-in_err-caps
+returns-in_err-caps c =
+    let told : c.from_residual.result ≡ Err c.in_err-caps.field-0.0 = search rules in
+    cap_refused _ _ _ _ _ _ _ c.requires.0 c.add_point.ensures c.in_err-caps.was told
 
 pub returns : goal.returns
-returns c =
-    cap_pushed _ _ _ _ c.requires.0 c.in-Fine.is c.if-caps-ge1024.false c.requires.2 c.put_point.ensures
+returns c = cap_pushed _ _ _ _ _ _ c.requires.0 c.add_point.ensures c.in_ok-caps.was

@@ -1,13 +1,12 @@
-use Rattle.ring.specs.Laws.{face_stays, face_refused, face_pushed}
+use Rattle.std.specs.Prelude.{Err, ◌≡◌}
+use Rattle.std.proofs.Common.{rules}
+use Rattle.ring.specs.Laws.{face_refused, face_pushed}
 use Rattle.ring.proofs.push_face.Goals as goal
 
-pub returns-in_default : goal.returns-in_default
-returns-in_default c = face_stays _ _ _ _ c.requires.0 c.requires.1 c.in_default.is
-
-pub returns-then-corners-ge128 : goal.returns-then-corners-ge128
-returns-then-corners-ge128 c =
-    face_refused _ _ _ _ c.requires.0 c.requires.1 c.in-Fine.is c.if-corners-ge128.true c.refuse-r.ensures
+pub returns-in_err-corners : goal.returns-in_err-corners
+returns-in_err-corners c =
+    let told : c.from_residual.result ≡ Err c.in_err-corners.field-0.0 = search rules in
+    face_refused _ _ _ _ _ _ _ c.requires.1 c.add_point.ensures c.in_err-corners.was told
 
 pub returns : goal.returns
-returns c =
-    face_pushed _ _ _ _ c.requires.1 c.in-Fine.is c.if-corners-ge128.false c.requires.2 c.put_point.ensures
+returns c = face_pushed _ _ _ _ _ _ c.requires.1 c.add_point.ensures c.in_ok-corners.was

@@ -1,6 +1,6 @@
+use Rattle.std.proofs.lemmas.Result.{err_from_is_err_and}
 use borrow.Author.Rules.{rules}
 use mathlib.Core.Path.{◌≡◌, sym, ◌∙◌}
-use Prim.Native.Nat.{◌-◌}
 use native.Mathlib.Omega.{arith}
 use lib.ListN.{length}
 use Rattle.outline.specs.Project.{points_of}
@@ -13,15 +13,16 @@ loop-i-init c =
     let k : length c.args.o.at ≡ 128 = c.well_formed.1.0.1.1.0.1.0.1 in
     (search rules, simple_start c.args.p c.args.o.at c.args.o.n (omega (arith, c.requires)))
 
-pub returns-in-Refused : goal.returns-in-Refused
-returns-in-Refused c =
+pub returns-in_err-simple_from : goal.returns-in_err-simple_from
+returns-in_err-simple_from c =
     let A = c.args in
-    sym (each_stop (simple_from A.p (points_of A.o) A.o.n) A.o.n c.loop-i.i _ c.loop-i-test.true (sym c.simple_from-v.ensures ∙ c.in-Refused.is)) ∙ c.loop-i.invariant.1
+    let p = err_from_is_err_and c.from_residual.result c.from_residual.ensures.1 in
+    rw (p.1, p.2) (sym (each_stop (simple_from A.p (points_of A.o) A.o.n) A.o.n c.loop-i.i _ c.loop-i-test.true (sym c.simple_from.ensures ∙ c.in_err-simple_from.was)) ∙ c.loop-i.invariant.1)
 
 pub loop-i-preserved : goal.loop-i-preserved
 loop-i-preserved c =
     let A = c.args in
-    let e = each_go (simple_from A.p (points_of A.o) A.o.n) A.o.n c.loop-i.i c.loop-i-test.true (sym c.simple_from-v.ensures ∙ c.in-Fine.is) in
+    let e = each_go (simple_from A.p (points_of A.o) A.o.n) A.o.n c.loop-i.i c.loop-i-test.true (sym c.simple_from.ensures ∙ c.in_ok-simple_from.was) in
     (search rules, sym e ∙ c.loop-i.invariant.1)
 
 pub returns : goal.returns

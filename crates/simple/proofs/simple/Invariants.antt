@@ -6,6 +6,3 @@ use Rattle.simple.proofs.simple.Given as goal
 
 abbrev pub invariant-loop-i : goal.invariant-loop-i
 invariant-loop-i l = (l.i ≤ l.n) × (each_of (simple_from l.p (points_of l.o) l.n) l.i (l.n - l.i) ≡ simple_of l.p (points_of l.o))
-
-abbrev pub decreases-loop-i : goal.decreases-loop-i
-decreases-loop-i l = l.n - l.i

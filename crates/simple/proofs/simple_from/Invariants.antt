@@ -6,6 +6,3 @@ use Rattle.simple.proofs.simple_from.Given as goal
 
 abbrev pub invariant-loop-j : goal.invariant-loop-j
 invariant-loop-j l = (l.i + 1 ≤ l.j) × (l.j ≤ l.n) × (each_of (pair_at l.p (points_of l.o) l.n l.i) l.j (l.n - l.j) ≡ simple_from l.p (points_of l.o) l.n l.i)
-
-abbrev pub decreases-loop-j : goal.decreases-loop-j
-decreases-loop-j l = l.n - l.j

@@ -1,6 +1,4 @@
-use mathlib.Core.Path.{sym, ap, ◌∙◌}
-use Prim.Native.Nat.{◌-◌}
-use Rattle.space.specs.Frames.{planed}
+use mathlib.Core.Path.{sym, ◌∙◌}
 use Rattle.solid_check.proofs.Storing.{putting_start, putting_long, putting_room, putting_go, putting_stop, putting_end}
 use borrow.Author.Rules.{rules}
 use Rattle.solid_check.proofs.put_faces.Goals as goal
@@ -8,8 +6,8 @@ use Rattle.solid_check.proofs.put_faces.Goals as goal
 pub loop-j-init : goal.loop-j-init
 loop-j-init c = search (rules, putting_start)
 
-pub plane_for-made-requires : goal.plane_for-made-requires
-plane_for-made-requires c =
+pub plane_for-requires : goal.plane_for-requires
+plane_for-requires c =
     let r = putting_room c.loop-j.invariant c.requires.1 c.loop-j-test.true c.requires.3 in
     search rules
 
@@ -18,9 +16,8 @@ shape_of-s-in_default c =
     putting_long c.loop-j.invariant c.requires.1
 
 pub returns-in_default : goal.returns-in_default
-unfolding planed
 returns-in_default c =
-    putting_stop c.loop-j.invariant c.requires.1 _ c.loop-j-test.true (sym c.plane_for-made.ensures ∙ ap planed c.in_default.is)
+    putting_stop c.loop-j.invariant c.requires.1 _ c.loop-j-test.true (sym c.plane_for.ensures ∙ c.in_default.is)
 
 pub put_face-requires : goal.put_face-requires
 put_face-requires c =
@@ -48,9 +45,8 @@ overflow_add-o-in-loop-j c =
     search rules
 
 pub loop-j-preserved : goal.loop-j-preserved
-unfolding planed
 loop-j-preserved c =
-    putting_go c.loop-j.invariant c.requires.1 _ c.loop-j-test.true (sym c.plane_for-made.ensures ∙ ap planed c.in-Made.is) c.put_face.ensures
+    putting_go c.loop-j.invariant c.requires.1 _ c.loop-j-test.true (sym c.plane_for.ensures ∙ c.in-Ok.is) c.put_face.ensures
 
 pub shape_of-s : goal.shape_of-s
 shape_of-s c = putting_long c.loop-j.invariant c.requires.1

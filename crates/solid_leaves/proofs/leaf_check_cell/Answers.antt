@@ -9,10 +9,10 @@ pub returns-then-not-is_roomy : goal.returns-then-not-is_roomy
 returns-then-not-is_roomy c = cell_small _ _ _ (sym c.is_roomy.ensures ∙ not-true _ (ap not c.if-not-is_roomy.true))
 
 pub check_laid-requires : goal.check_laid-requires
-check_laid-requires c = (cell_layout_lem _ _ _ c.read_cell-laid.ensures c.in-Made.is, roomy_is _ _ _ _ _ _ _ _ _ _ (sym c.is_roomy.ensures ∙ not-false _ (ap not c.if-not-is_roomy.false)))
+check_laid-requires c = (cell_layout_lem _ _ _ c.read_cell.ensures c.in-Ok.is, roomy_is _ _ _ _ _ _ _ _ _ _ (sym c.is_roomy.ensures ∙ not-false _ (ap not c.if-not-is_roomy.false)))
 
-pub returns-in-Made : goal.returns-in-Made
-returns-in-Made c = cell_checked _ _ _ _ _ (sym c.is_roomy.ensures ∙ not-false _ (ap not c.if-not-is_roomy.false)) (cell_layout_lem _ _ _ c.read_cell-laid.ensures c.in-Made.is) c.check_laid.ensures
+pub returns-in-Ok : goal.returns-in-Ok
+returns-in-Ok c = cell_checked _ _ _ _ _ (sym c.is_roomy.ensures ∙ not-false _ (ap not c.if-not-is_roomy.false)) (cell_layout_lem _ _ _ c.read_cell.ensures c.in-Ok.is) c.check_laid.ensures
 
-pub returns-in-Refused : goal.returns-in-Refused
-returns-in-Refused c = cell_refused _ _ _ _ _ (sym c.is_roomy.ensures ∙ not-false _ (ap not c.if-not-is_roomy.false)) c.read_cell-laid.ensures c.in-Refused.is
+pub returns-in-Err : goal.returns-in-Err
+returns-in-Err c = cell_refused _ _ _ _ _ (sym c.is_roomy.ensures ∙ not-false _ (ap not c.if-not-is_roomy.false)) c.read_cell.ensures c.in-Err.is

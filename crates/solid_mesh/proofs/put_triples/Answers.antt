@@ -1,5 +1,4 @@
 use mathlib.Core.Path.{◌≡◌}
-use Prim.Native.Nat.{◌-◌}
 use lib.ListN.{length}
 use Rattle.solid_mesh.specs.Laws.{drawing_start, drawing_turn, drawing_end, length_triples}
 use native.Mathlib.Omega.{arith}

@@ -16,26 +16,26 @@ take_solid-taken-requires c =
 
 pub hollow_here-requires : goal.hollow_here-requires
 hollow_here-requires c =
-    (taken_given c.take_solid-taken.ensures c.in-Fine.is, same_rooms c.requires.1 c.take_solid-taken.auto.s c.take_solid-taken.auto.counts)
+    (taken_given c.take_solid-taken.ensures c.in-Ok.is, same_rooms c.requires.1 c.take_solid-taken.auto.s c.take_solid-taken.auto.counts)
 
-pub shape_of-s-in-Refused : goal.shape_of-s-in-Refused
-shape_of-s-in-Refused c =
+pub shape_of-s-in-Err : goal.shape_of-s-in-Err
+shape_of-s-in-Err c =
     c.take_solid-taken.auto.s
 
-pub shape_of-counts-in-Refused : goal.shape_of-counts-in-Refused
-shape_of-counts-in-Refused c =
+pub shape_of-counts-in-Err : goal.shape_of-counts-in-Err
+shape_of-counts-in-Err c =
     c.take_solid-taken.auto.counts
 
-pub returns-in-Refused : goal.returns-in-Refused
-returns-in-Refused c =
-    hollow_not c.args.cell.now c.args.y c.args.limit c.args.w c.take_solid-taken.ensures _ c.is_thick.ensures (not-false _ (ap not c.if-not-is_thick.false)) c.args.answer.now _ _ c.in-Refused.is c.stop-in-Refused.ensures
+pub returns-in-Err : goal.returns-in-Err
+returns-in-Err c =
+    hollow_not c.args.cell.now c.args.y c.args.limit c.args.w c.take_solid-taken.ensures _ c.is_thick.ensures (not-false _ (ap not c.if-not-is_thick.false)) c.args.answer.now _ _ c.in-Err.is c.stop-in-Err.ensures
 
-pub shape_of-s-in-Fine : goal.shape_of-s-in-Fine
-shape_of-s-in-Fine c =
+pub shape_of-s-in-Ok : goal.shape_of-s-in-Ok
+shape_of-s-in-Ok c =
     c.hollow_here.auto.s ∙ c.take_solid-taken.auto.s
 
-pub shape_of-counts-in-Fine : goal.shape_of-counts-in-Fine
-shape_of-counts-in-Fine c =
+pub shape_of-counts-in-Ok : goal.shape_of-counts-in-Ok
+shape_of-counts-in-Ok c =
     c.hollow_here.auto.counts ∙ c.take_solid-taken.auto.counts
 
 pub shape_of-dst : goal.shape_of-dst
@@ -50,6 +50,6 @@ pub shape_of-answer : goal.shape_of-answer
 shape_of-answer c =
     c.hollow_here.auto.answer
 
-pub returns-in-Fine : goal.returns-in-Fine
-returns-in-Fine c =
-    hollow_done c.args.cell.now c.args.y c.args.limit c.args.w c.take_solid-taken.ensures _ c.is_thick.ensures (not-false _ (ap not c.if-not-is_thick.false)) c.args.answer.now _ _ c.in-Fine.is c.hollow_here.ensures
+pub returns-in-Ok : goal.returns-in-Ok
+returns-in-Ok c =
+    hollow_done c.args.cell.now c.args.y c.args.limit c.args.w c.take_solid-taken.ensures _ c.is_thick.ensures (not-false _ (ap not c.if-not-is_thick.false)) c.args.answer.now _ _ c.in-Ok.is c.hollow_here.ensures

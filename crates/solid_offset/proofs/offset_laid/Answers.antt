@@ -8,26 +8,26 @@ take_solid-taken-requires c =
 
 pub offset_here-requires : goal.offset_here-requires
 offset_here-requires c =
-    (taken_given c.take_solid-taken.ensures c.in-Fine.is, c.requires.1.place, c.requires.1.slots)
+    (taken_given c.take_solid-taken.ensures c.in-Ok.is, c.requires.1.place, c.requires.1.slots)
 
-pub shape_of-s-in-Refused : goal.shape_of-s-in-Refused
-shape_of-s-in-Refused c =
+pub shape_of-s-in-Err : goal.shape_of-s-in-Err
+shape_of-s-in-Err c =
     c.take_solid-taken.auto.s
 
-pub shape_of-counts-in-Refused : goal.shape_of-counts-in-Refused
-shape_of-counts-in-Refused c =
+pub shape_of-counts-in-Err : goal.shape_of-counts-in-Err
+shape_of-counts-in-Err c =
     c.take_solid-taken.auto.counts
 
-pub returns-in-Refused : goal.returns-in-Refused
-returns-in-Refused c =
-    offset_not c.args.cell.now c.args.y c.args.limit c.args.d c.take_solid-taken.ensures c.args.answer.now _ _ c.in-Refused.is c.stop.ensures
+pub returns-in-Err : goal.returns-in-Err
+returns-in-Err c =
+    offset_not c.args.cell.now c.args.y c.args.limit c.args.d c.take_solid-taken.ensures c.args.answer.now _ _ c.in-Err.is c.stop.ensures
 
-pub shape_of-s-in-Fine : goal.shape_of-s-in-Fine
-shape_of-s-in-Fine c =
+pub shape_of-s-in-Ok : goal.shape_of-s-in-Ok
+shape_of-s-in-Ok c =
     c.take_solid-taken.auto.s
 
-pub shape_of-counts-in-Fine : goal.shape_of-counts-in-Fine
-shape_of-counts-in-Fine c =
+pub shape_of-counts-in-Ok : goal.shape_of-counts-in-Ok
+shape_of-counts-in-Ok c =
     c.take_solid-taken.auto.counts
 
 pub shape_of-dst : goal.shape_of-dst
@@ -42,6 +42,6 @@ pub shape_of-answer : goal.shape_of-answer
 shape_of-answer c =
     c.offset_here.auto.answer
 
-pub returns-in-Fine : goal.returns-in-Fine
-returns-in-Fine c =
-    offset_done c.args.cell.now c.args.y c.args.limit c.args.d c.take_solid-taken.ensures c.args.answer.now _ _ c.in-Fine.is c.offset_here.ensures
+pub returns-in-Ok : goal.returns-in-Ok
+returns-in-Ok c =
+    offset_done c.args.cell.now c.args.y c.args.limit c.args.d c.take_solid-taken.ensures c.args.answer.now _ _ c.in-Ok.is c.offset_here.ensures

@@ -3,11 +3,11 @@ use Rattle.solid_offset.proofs.offset_served.Goals as goal
 
 pub offset_laid-requires : goal.offset_laid-requires
 offset_laid-requires c =
-    (open_stood c.args.lends c.args.cell.now _ c.open_cell-read.ensures _ c.in-Made.is, c.requires.rooms (open_lends c.args.lends c.args.cell.now _ c.open_cell-read.ensures _ c.in-Made.is))
+    (open_stood c.args.lends c.args.cell.now _ c.open_cell-read.ensures _ c.in-Ok.is, c.requires.rooms (open_lends c.args.lends c.args.cell.now _ c.open_cell-read.ensures _ c.in-Ok.is))
 
-pub returns-in-Refused : goal.returns-in-Refused
-returns-in-Refused c =
-    offset_shut c.args.lends c.args.cell.now _ c.open_cell-read.ensures c.args.limit c.args.d c.args.answer.now _ _ c.in-Refused.is c.stop.ensures
+pub returns-in-Err : goal.returns-in-Err
+returns-in-Err c =
+    offset_shut c.args.lends c.args.cell.now _ c.open_cell-read.ensures c.args.limit c.args.d c.args.answer.now _ _ c.in-Err.is c.stop.ensures
 
 pub shape_of-s : goal.shape_of-s
 shape_of-s c =
@@ -29,6 +29,6 @@ pub shape_of-answer : goal.shape_of-answer
 shape_of-answer c =
     c.offset_laid.auto.answer
 
-pub returns-in-Made : goal.returns-in-Made
-returns-in-Made c =
-    offset_open c.args.lends c.args.cell.now _ c.open_cell-read.ensures c.args.limit c.args.d _ c.args.answer.now _ _ c.in-Made.is c.offset_laid.ensures
+pub returns-in-Ok : goal.returns-in-Ok
+returns-in-Ok c =
+    offset_open c.args.lends c.args.cell.now _ c.open_cell-read.ensures c.args.limit c.args.d _ c.args.answer.now _ _ c.in-Ok.is c.offset_laid.ensures

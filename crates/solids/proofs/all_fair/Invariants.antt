@@ -1,5 +1,4 @@
 use mathlib.Core.Path.{◌≡◌}
-use Prim.Native.Nat.{◌-◌, ◌≤◌}
 use lib.ListN.{drop}
 use Rattle.lists.specs.Walks.{all}
 use Rattle.space.specs.Vector.{fair_point}
@@ -8,7 +7,4 @@ use Rattle.solids.specs.Order.{fair_all}
 use Rattle.solids.proofs.all_fair.Given as goal
 
 abbrev pub invariant-loop-i : goal.invariant-loop-i
-invariant-loop-i l = (l.i ≤ l.m) × (all fair_point l.fine (drop l.i (points_at l.points 0 l.m)) ≡ fair_all (points_at l.points 0 l.m))
-
-abbrev pub decreases-loop-i : goal.decreases-loop-i
-decreases-loop-i l = l.m - l.i
+invariant-loop-i l = all fair_point l.fine (drop l.i (points_at l.points 0 l.m)) ≡ fair_all (points_at l.points 0 l.m)

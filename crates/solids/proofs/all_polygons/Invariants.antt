@@ -1,6 +1,5 @@
 use mathlib.Core.Path.{◌≡◌}
 use mathlib.Core.Bool.{true}
-use Prim.Native.Nat.{◌-◌, ◌≤◌}
 use lib.ListN.{drop}
 use Rattle.lists.specs.Walks.{all}
 use Rattle.room.specs.Rooms.{counts_at}
@@ -8,7 +7,4 @@ use Rattle.solids.specs.Order.{within}
 use Rattle.solids.proofs.all_polygons.Given as goal
 
 abbrev pub invariant-loop-j : goal.invariant-loop-j
-invariant-loop-j l = (l.j ≤ l.n) × (all (within 3 64) l.fine (drop l.j (counts_at l.counts 0 l.n)) ≡ all (within 3 64) true (counts_at l.counts 0 l.n))
-
-abbrev pub decreases-loop-j : goal.decreases-loop-j
-decreases-loop-j l = l.n - l.j
+invariant-loop-j l = all (within 3 64) l.fine (drop l.j (counts_at l.counts 0 l.n)) ≡ all (within 3 64) true (counts_at l.counts 0 l.n)

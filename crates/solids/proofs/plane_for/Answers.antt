@@ -1,12 +1,10 @@
+use Rattle.std.specs.Prelude.{Err}
 use mathlib.Core.Path.{sym, ap, ◌∙◌}
-use Rattle.space.specs.Frames.{planed}
-use Rattle.refusal.specs.Outcome.{refused}
 use Rattle.solids.specs.Faces.{few_corners, three_corners}
 use Rattle.solids.proofs.plane_for.Goals as goal
 
 pub returns-then-n-lt3 : goal.returns-then-n-lt3
-unfolding planed
-returns-then-n-lt3 c = ap refused c.refuse.ensures ∙ sym (few_corners _ _ _ _ _ c.requires.1 c.if-n-lt3.true)
+returns-then-n-lt3 c = ap Err c.refuse.ensures ∙ sym (few_corners _ _ _ _ _ c.requires.1 c.if-n-lt3.true)
 
 pub returns : goal.returns
 returns c =

@@ -1,10 +1,7 @@
-use Rattle.space.specs.Frames.{planed}
 use Rattle.space.proofs.marked.Goals as goal
 
-pub returns-in-Made : goal.returns-in-Made
-unfolding planed
-returns-in-Made c = cc
+pub returns-in-Ok : goal.returns-in-Ok
+returns-in-Ok c = cc
 
-pub returns-in-Refused : goal.returns-in-Refused
-unfolding planed
-returns-in-Refused c = cc
+pub returns-in-Err : goal.returns-in-Err
+returns-in-Err c = cc

@@ -11,9 +11,9 @@ bounds-told-1 c = simp length-set (omega arith)
 pub bounds-told-2 : goal.bounds-told-2
 bounds-told-2 c = simp length-set (omega arith)
 
-pub returns-in-Refused : goal.returns-in-Refused
+pub returns-in-Err : goal.returns-in-Err
 unfolding number_by where_fine
-returns-in-Refused c = record { value = cc; told_after = cc }
+returns-in-Err c = record { value = cc; told_after = cc }
 
-pub returns-in-Fine : goal.returns-in-Fine
-returns-in-Fine c = search (rules, fine_number, fine_kept)
+pub returns-in-Ok : goal.returns-in-Ok
+returns-in-Ok c = search (rules, fine_number, fine_kept)

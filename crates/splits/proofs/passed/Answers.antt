@@ -22,12 +22,6 @@ overflow_mul-o c = omega (arith, ahead_inside _ _ _ _ _ _ c.requires.listed c.lo
 pub overflow_add-o-in-loop-i : goal.overflow_add-o-in-loop-i
 overflow_add-o-in-loop-i c = omega (arith, ahead_inside _ _ _ _ _ _ c.requires.listed c.loop-i-test.true c.loop-i.invariant.ahead, c.well_formed)
 
-pub overflow_add-i : goal.overflow_add-i
-overflow_add-i c = omega (arith, c.requires.listed, c.loop-i-test.true, c.well_formed)
-
-pub loop-i-smaller : goal.loop-i-smaller
-loop-i-smaller c = omega (arith, c.loop-i-test.true)
-
 pub loop-i-preserved : goal.loop-i-preserved
 loop-i-preserved c = passing_step _ _ _ _ _ _ _ c.requires.listed c.loop-i-test.true c.loop-i.invariant
 

@@ -37,12 +37,6 @@ overflow_mul-o c = omega (arith, ahead_inside _ _ _ _ _ _ c.requires.0.listed c.
 pub overflow_add-o-in-loop-i : goal.overflow_add-o-in-loop-i
 overflow_add-o-in-loop-i c = omega (arith, ahead_inside _ _ _ _ _ _ c.requires.0.listed c.loop-i-test.true c.loop-i.invariant.ahead, c.well_formed)
 
-pub overflow_add-i : goal.overflow_add-i
-overflow_add-i c = omega (arith, c.requires.0.listed, c.loop-i-test.true, c.well_formed)
-
-pub loop-i-smaller : goal.loop-i-smaller
-loop-i-smaller c = omega (arith, c.loop-i-test.true)
-
 pub loop-i-preserved : goal.loop-i-preserved
 loop-i-preserved c = copying_step c.loop-i.invariant _ _ c.requires.0.listed c.loop-i-test.true c.get_plane-w.ensures c.put_plane.ensures c.put_plane.auto.s
 

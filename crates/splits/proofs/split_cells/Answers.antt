@@ -31,12 +31,6 @@ slice_bounds-split_plane-end-in-loop-i-4 c = sym c.loop-i.invariant.7
 pub split_plane-s-requires : goal.split_plane-s-requires
 split_plane-s-requires c = record { holds = (c.loop-i.invariant.0.holds, places_three _ _ _ _ _ _ _ c.requires.n_in_bounds.2 c.loop-i.invariant.1); places = (places_three _ _ _ _ _ _ _ c.requires.places c.loop-i.invariant.2, record { face_fits = omega (arith, c.loop-i.invariant.3); cap_fits = omega (arith, c.loop-i.invariant.4); hulls = record { flat_fits = omega (arith, c.loop-i.invariant.5); order_fits = omega (arith, c.loop-i.invariant.6); chain_fits = omega (arith, c.loop-i.invariant.7) } }) }
 
-pub overflow_add-i : goal.overflow_add-i
-overflow_add-i c = omega (arith, c.requires.n_in_bounds.0, c.loop-i-test.true, c.well_formed)
-
-pub loop-i-smaller : goal.loop-i-smaller
-loop-i-smaller c = omega (arith, c.loop-i-test.true)
-
 pub loop-i-preserved : goal.loop-i-preserved
 loop-i-preserved c = (cutting_step c.loop-i.invariant.0 _ _ _ _ _ c.loop-i-test.true c.get_plane-w.ensures c.split_plane-s.ensures, record { dst = c.split_plane-s.auto.dst ∙ c.loop-i.invariant.1.dst; counts = c.split_plane-s.auto.counts ∙ c.loop-i.invariant.1.counts; sizes = c.split_plane-s.auto.sizes ∙ c.loop-i.invariant.1.sizes }, record { dst = c.split_plane-s.auto.spare ∙ c.loop-i.invariant.2.dst; counts = c.split_plane-s.auto.slots ∙ c.loop-i.invariant.2.counts; sizes = c.split_plane-s.auto.seats ∙ c.loop-i.invariant.2.sizes }, c.split_plane-s.auto.face ∙ c.loop-i.invariant.3, c.split_plane-s.auto.cap ∙ c.loop-i.invariant.4, c.split_plane-s.auto.flat ∙ c.loop-i.invariant.5, c.split_plane-s.auto.order ∙ c.loop-i.invariant.6, c.split_plane-s.auto.chain ∙ c.loop-i.invariant.7)
 

@@ -23,12 +23,6 @@ passed-from-requires c = (splitting_first c.loop-i.invariant.0 c.loop-i-test.tru
 pub overflow_add-j : goal.overflow_add-j
 overflow_add-j c = omega (arith, (splitting_first c.loop-i.invariant.0 c.loop-i-test.true).given.listed, c.well_formed)
 
-pub overflow_add-i : goal.overflow_add-i
-overflow_add-i c = omega (arith, (splitting_first c.loop-i.invariant.0 c.loop-i-test.true).inside, c.well_formed)
-
-pub loop-i-smaller : goal.loop-i-smaller
-loop-i-smaller c = omega (arith, c.loop-i-test.true)
-
 pub loop-i-preserved : goal.loop-i-preserved
 loop-i-preserved c = (splitting_step c.loop-i.invariant.0 _ _ _ _ _ c.loop-i-test.true c.split_cell-s.ensures c.passed-from.ensures, record { dst = c.split_cell-s.auto.dst ∙ c.loop-i.invariant.1.dst; counts = c.split_cell-s.auto.counts ∙ c.loop-i.invariant.1.counts; sizes = c.split_cell-s.auto.sizes ∙ c.loop-i.invariant.1.sizes }, record { face = c.split_cell-s.auto.face ∙ c.loop-i.invariant.2.face; cap = c.split_cell-s.auto.cap ∙ c.loop-i.invariant.2.cap; flat = c.split_cell-s.auto.flat ∙ c.loop-i.invariant.2.flat; order = c.split_cell-s.auto.order ∙ c.loop-i.invariant.2.order; chain = c.split_cell-s.auto.chain ∙ c.loop-i.invariant.2.chain })
 

@@ -6,7 +6,7 @@ pub returns-in_default : goal.returns-in_default
 returns-in_default c = listed_stays _ _ _ _ _ _ _ c.requires.holds.0 c.in_default.is
 
 pub split_back-requires : goal.split_back-requires
-split_back-requires c = record { standing = (list_stands _ _ _ _ _ c.requires.holds.0 c.in-Fine.is, c.requires.holds.1); places = c.requires.places }
+split_back-requires c = record { standing = (list_stands _ _ _ _ _ c.requires.holds.0 c.in-Ok.is, c.requires.holds.1); places = c.requires.places }
 
 pub shape_of-dst : goal.shape_of-dst
 shape_of-dst c = c.split_back.auto.dst
@@ -41,8 +41,8 @@ shape_of-order c = c.split_back.auto.order
 pub shape_of-chain : goal.shape_of-chain
 shape_of-chain c = c.split_back.auto.chain
 
-pub returns-in-Made : goal.returns-in-Made
-returns-in-Made c = plane_made _ _ _ _ _ c.requires.holds.0 c.in-Fine.is _ _ _ _ _ _ _ _ c.opposite-o.ensures c.in-Made.is c.split_back.ensures
+pub returns-in-Ok-o : goal.returns-in-Ok-o
+returns-in-Ok-o c = plane_made _ _ _ _ _ c.requires.holds.0 c.in-Ok.is _ _ _ _ _ _ _ _ c.opposite-o.ensures c.in-Ok-o.is c.split_back.ensures
 
-pub returns-in-Refused : goal.returns-in-Refused
-returns-in-Refused c = plane_refused _ _ _ _ _ c.requires.holds.0 c.in-Fine.is _ _ _ _ _ c.opposite-o.ensures c.in-Refused.is c.gone.ensures
+pub returns-in-Err : goal.returns-in-Err
+returns-in-Err c = plane_refused _ _ _ _ _ c.requires.holds.0 c.in-Ok.is _ _ _ _ _ c.opposite-o.ensures c.in-Err.is c.gone.ensures

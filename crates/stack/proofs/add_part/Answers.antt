@@ -46,4 +46,4 @@ join-requires c =
 
 pub returns : goal.returns
 returns c =
-    cut_joined _ _ _ _ _ _ _ _ _ _ _ _ _ c.requires.holds.0 c.in-Fine.is c.clip-p.ensures _ _ _ refl c.requires.given.1 c.requires.holds.1 refl refl c.join.ensures.value c.join.ensures.cells_after
+    cut_joined _ _ _ _ _ _ _ _ _ _ _ _ _ c.requires.holds.0 c.in-Ok.is c.clip-p.ensures _ _ _ refl c.requires.given.1 c.requires.holds.1 refl refl c.join.ensures.value c.join.ensures.cells_after

@@ -1,4 +1,3 @@
-use Prim.Native.Nat.{◌-◌}
 use Rattle.topology.specs.Laws.{laid_start, laid_room, laid_next, laid_end, laid_within}
 use borrow.Author.Rules.{rules}
 use Rattle.topology.proofs.lay_corners.Goals as goal

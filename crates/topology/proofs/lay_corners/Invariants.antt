@@ -1,9 +1,5 @@
-use Prim.Native.Nat.{◌-◌}
 use Rattle.topology.specs.Laws.{Laid}
 use Rattle.topology.proofs.lay_corners.Given as goal
 
 abbrev pub invariant-loop-j : goal.invariant-loop-j
 invariant-loop-j l = Laid l.places l.counts l.n l.initial.nexts l.initial.faces l.nexts l.faces l.at l.j
-
-abbrev pub decreases-loop-j : goal.decreases-loop-j
-decreases-loop-j l = l.n - l.j

@@ -1,4 +1,3 @@
-use Prim.Native.Nat.{◌-◌}
 use Rattle.topology.specs.Laws.{laying_start, laying_next, laying_end}
 use borrow.Author.Rules.{rules}
 use Rattle.topology.proofs.put_corners.Goals as goal

@@ -1,4 +1,3 @@
-use Prim.Native.Nat.{◌-◌}
 use Rattle.topology.specs.Laws.{joining_start, joining_next, joining_room, joining_end}
 use borrow.Author.Rules.{rules}
 use Rattle.topology.proofs.put_joins.Goals as goal

@@ -1,4 +1,3 @@
-use Prim.Native.Nat.{◌-◌}
 use Rattle.topology.specs.Laws.{tallying_start, tallying_next, tallying_end}
 use borrow.Author.Rules.{rules}
 use Rattle.topology.proofs.tally.Goals as goal

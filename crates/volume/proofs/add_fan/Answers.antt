@@ -1,4 +1,3 @@
-use Prim.Native.Nat.{◌-◌}
 use Rattle.volume.specs.Shell.{fanning_start, fanning_step, fanning_end, points_first}
 use borrow.Author.Rules.{rules}
 use Rattle.volume.proofs.add_fan.Goals as goal

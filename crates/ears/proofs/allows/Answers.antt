@@ -1,4 +1,0 @@
-use Rattle.ears.proofs.allows.Goals as goal
-
-pub returns : goal.returns
-returns c = cc

@@ -1,4 +1,0 @@
-use Rattle.edges.proofs.put_key.Goals as goal
-
-pub returns : goal.returns
-returns c = cc

@@ -1,4 +1,0 @@
-use Rattle.leaves.proofs.leaf_sub.Goals as goal
-
-pub returns : goal.returns
-returns c = cc

@@ -1,4 +1,0 @@
-use Rattle.mesh.proofs.is_finite_frame.Goals as goal
-
-pub returns : goal.returns
-returns c = cc

@@ -1,6 +1,0 @@
-use Rattle.solids.specs.Order.{counted_all}
-use Rattle.solids.proofs.is_counted.Goals as goal
-
-pub returns : goal.returns
-unfolding counted_all
-returns c = cc
