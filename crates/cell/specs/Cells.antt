@@ -1,5 +1,5 @@
 -- A cell that grows face by face in a room: 12. Definitions only.
-use Rattle.std.specs.Prelude.{◌≡◌, Bool, true, false, ◌||◌, List, [], ◌∷◌, ◌++◌, ℕ, ◌+◌, ◌*◌, ◌≤◌, length, ltb, leb, Float, Ok, Err}
+use Rattle.std.specs.Prelude.{◌≡◌, Bool, true, false, cond, ◌||◌, List, [], ◌∷◌, ◌++◌, ℕ, ◌+◌, ◌*◌, ◌≤◌, length, ltb, leb, Float, Ok, Err}
 use Rattle.std.specs.Result.{IfOk}
 use Rattle.std.proofs.lemmas.List.Edits.{sets}
 use Rattle.refusal.specs.declared.Refusal.{Refusal}
@@ -24,6 +24,16 @@ keep_face false room c f = add_face room c f
 unfoldable pub left_cell : ℕ → Cell → Outcome Cell
 left_cell room c = walk (add_face room) [] c
 
+-- how much of a cell is added, face by face: all of it, or the faces before the first that there is no room for
+unfoldable pub added : ℕ → Cell → Cell → Cell
+added room c [] = c
+added room c (f ∷ fs) = cond (is_full room (length c) (corners 0 c) (length f.points)) c (added room (c ++ (f ∷ [])) fs)
+
+-- what a cell that is added leaves in the slices, whether it is refused or not
+pub record Filled (room : ℕ) (c : Cell) (d₀ : List Float) (at : ℕ) (n₀ : List ℕ) (k : ℕ) (d : List Float) (n : List ℕ) : Type 0 where
+  pub floats : d ≡ sets d₀ at (cell_floats (added room [] c))
+  pub counts : n ≡ sets n₀ k (cell_counts (added room [] c))
+
 -- a cell lies behind what the slices held: its floats from `at` on, its faces' numbers of corners from `k` on
 pub record Stored (d₀ : List Float) (at : ℕ) (n₀ : List ℕ) (k : ℕ) (o : Outcome Cell) (s : Outcome Kept) (d : List Float) (n : List ℕ) : Type 0 where
   pub cell : Cell
@@ -35,15 +45,15 @@ pub record Stored (d₀ : List Float) (at : ℕ) (n₀ : List ℕ) (k : ℕ) (o 
   pub small : Small cell
 
 -- 128 faces with as many corners as the room allows fit behind the two places, and there are no more
-pub record Fits (room : ℕ) (s : Kept) (d : List Float) (at : ℕ) (n : List ℕ) (k : ℕ) : Type 0 where
-  pub few : s.faces ≤ 128
-  pub fit : s.corners ≤ room
+pub record Fits (room : ℕ) (s : Outcome Kept) (d : List Float) (at : ℕ) (n : List ℕ) (k : ℕ) : Type 0 where
+  pub few : IfOk s (λ x. x.faces ≤ 128)
+  pub fit : IfOk s (λ x. x.corners ≤ room)
   pub place : at + 1664 + 3 * room ≤ length d
   pub slots : k + 128 ≤ length n
 
 -- one step: whatever cell lay there, the step's outcome of it lies there now; a refusal writes nothing
-pub record Turned (room at k : ℕ) (f : Cell → Outcome Cell) (s : Kept) (r : Outcome Kept) (d : List Float) (n : List ℕ) (d' : List Float) (n' : List ℕ) : Type 0 where
-  pub on : (d₀ : List Float) (n₀ : List ℕ) (o : Outcome Cell) → Stored d₀ at n₀ k o (Ok s) d n → Stored d₀ at n₀ k (then o f) r d' n'
+pub record Turned (room at k : ℕ) (f : Cell → Outcome Cell) (s r : Outcome Kept) (d : List Float) (n : List ℕ) (d' : List Float) (n' : List ℕ) : Type 0 where
+  pub on : (d₀ : List Float) (n₀ : List ℕ) (o : Outcome Cell) → Stored d₀ at n₀ k o s d n → Stored d₀ at n₀ k (then o f) r d' n'
   pub few : IfOk r (λ x. x.faces ≤ 128)
   pub fit : IfOk r (λ x. x.corners ≤ room)
   pub kept : (e : Refusal) → r ≡ Err e → (d' ≡ d) × (n' ≡ n)

@@ -2,10 +2,10 @@
 
 // A cell that grows face by face in a room, behind what two lent slices hold already: the floats of its faces from `at` on,
 // their numbers of corners from `k` on. A refusal writes nothing more; what was added before it stays behind the places.
-ghost use Rattle.std.specs.Prelude.{◌≡◌, ◌+◌, ◌*◌, ◌≤◌, ◌<◌, length, ltb};
+ghost use Rattle.std.specs.Prelude.{◌≡◌, ◌+◌, ◌*◌, ◌≤◌, ◌<◌, length, ltb, Ok};
 ghost use Rattle.polygon.specs.Polygons.{corners_of};
 ghost use Rattle.room.specs.Rooms.{plane_size, face_at, cell_at, counts_at};
-ghost use Rattle.cell.specs.Cells.{is_full, add_face, keep_face, left_cell, Stored, Fits, Turned, Ready};
+ghost use Rattle.cell.specs.Cells.{is_full, add_face, keep_face, left_cell, Filled, Stored, Fits, Turned, Ready};
 
 use polygon::Polygon;
 use refusal::Refusal;
@@ -25,14 +25,14 @@ fn is_full(limit: usize, faces: usize, held: usize, n: usize) -> bool
     (128 <= faces) | (limit < held + n)
 }
 
-// One face more, where the room has a place for it.
+// One face more, where the room has a place for it; a refusal stays.
 pub fn add_face(
     limit: usize,
     dst: &mut [f64],
     at: usize,
     counts: &mut [u64],
     k: usize,
-    s: Kept,
+    s: Result<Kept, Refusal>,
     w: Plane,
     p: Polygon,
 ) -> Result<Kept, Refusal>
@@ -40,8 +40,9 @@ pub fn add_face(
     requires n_bound { (p.n ≤ 128) × (p.n ≡ length (corners_of p)) }
     ensures { Turned limit at k (λ c. add_face limit c (record { plane = w; points = corners_of p })) s result dst.old counts.old dst.new counts.new }
 {
-    let faces = s.faces;
-    let held = s.corners;
+    let kept = s?;
+    let faces = kept.faces;
+    let held = kept.corners;
     let n = p.n;
     if is_full(limit, faces, held, n) {
         return Err(refusal::refuse(12));
@@ -67,7 +68,7 @@ pub fn keep_face(
     at: usize,
     counts: &mut [u64],
     k: usize,
-    s: Kept,
+    s: Result<Kept, Refusal>,
     w: Plane,
     p: Polygon,
 ) -> Result<Kept, Refusal>
@@ -76,7 +77,7 @@ pub fn keep_face(
     ensures { Turned limit at k (λ c. keep_face (ltb (length (corners_of p)) 3) limit c (record { plane = w; points = corners_of p })) s result dst.old counts.old dst.new counts.new }
 {
     if p.n < 3 {
-        return Ok(s);
+        return s;
     }
     add_face(limit, dst, at, counts, k, s, w, p)
 }
@@ -93,9 +94,9 @@ fn copy_face(
     k: usize,
     s: Kept,
 ) -> Result<Kept, Refusal>
-    requires fits { Fits limit s dst.old at counts.old k }
+    requires fits { Fits limit (Ok s) dst.old at counts.old k }
     requires n_bound { (n ≤ 128) × (o + plane_size + 3 * n ≤ length src.now) }
-    ensures { Turned limit at k (λ c. add_face limit c (face_at src.now o n)) s result dst.old counts.old dst.new counts.new }
+    ensures { Turned limit at k (λ c. add_face limit c (face_at src.now o n)) (Ok s) result dst.old counts.old dst.new counts.new }
 {
     let faces = s.faces;
     let old = s.corners;
@@ -131,7 +132,8 @@ pub fn left_cell(
     k: usize,
 ) -> Result<Kept, Refusal>
     requires { Ready limit src.now from sizes.now j faces dst.old at counts.old k }
-    ensures { Stored dst.old at counts.old k (left_cell limit (cell_at src.now from (counts_at sizes.now j faces))) result dst.new counts.new }
+    ensures stored { Stored dst.old at counts.old k (left_cell limit (cell_at src.now from (counts_at sizes.now j faces))) result dst.new counts.new }
+    ensures filled { Filled limit (cell_at src.now from (counts_at sizes.now j faces)) dst.old at counts.old k dst.new counts.new }
 {
     let mut s = Kept {
         faces: 0,

@@ -153,7 +153,7 @@ module _ (t : Precision) (room at k : ℕ) (w : Plane) (f : Face) (s : Going) (c
     going_few (Err e) a b c = tt
 
     module _ (d' : List Float) (n' : List ℕ) (u : Polygon) (v : Plane) (r : Outcome Kept) (ev : v ≡ f.plane) (eu : Ok u ≡ made (unique t (points_at face' 0 g.corners)))
-        (turned : Turned room at k (λ c. keep_face (ltb (length (corners_of u)) 3) room c (record { plane = v; points = corners_of u })) (record { faces = s.faces; corners = s.corners }) r d n d' n') where
+        (turned : Turned room at k (λ c. keep_face (ltb (length (corners_of u)) 3) room c (record { plane = v; points = corners_of u })) (Ok (record { faces = s.faces; corners = s.corners })) r d n d' n') where
       cutter_done : Cutter room at k (λ x. cut_face t room w x f) s (going r) cap d n cap' d' n'
       unfolding cut_face joined
       cutter_done = record {
@@ -289,7 +289,7 @@ closer_unmade t room at k w s cap d n u r y eu er ey = subst (λ v. Closer at k 
 
 pub closer_added : (t : Precision) (room at k : ℕ) (w : Plane) (s : Going) (r : Outcome Kept) (cap d : List Float) (n : List ℕ) (d' : List Float) (n' : List ℕ) (u : Polygon) →
     Ok u ≡ made (cap_of t w (points_at cap 0 s.caps)) →
-    Turned room at k (λ c. add_face room c (record { plane = w; points = corners_of u })) (record { faces = s.faces; corners = s.corners }) r d n d' n' →
+    Turned room at k (λ c. add_face room c (record { plane = w; points = corners_of u })) (Ok (record { faces = s.faces; corners = s.corners })) r d n d' n' →
     Closer at k (closed t room w) s r cap d n d' n'
 unfolding closed
 closer_added t room at k w s r cap d n d' n' u eu turned = record {

@@ -37,7 +37,7 @@ fn sign_cell(
     let mut o = from;
     for i in 0..faces {
         let n = sizes[j + i] as usize;
-        s = ring::sign_face(t, plane, src, o + room::PLANE, n, s)?;
+        s = ring::sign_face(t, plane, src, o + room::PLANE, n, Ok(s))?;
         o = o + room::PLANE + 3 * n;
     }
     Ok(s)
@@ -69,7 +69,7 @@ fn cut_face(
         faces: s.faces,
         corners: s.corners,
     };
-    let r = cell::keep_face(limit, dst, at, counts, k, old, w, q)?;
+    let r = cell::keep_face(limit, dst, at, counts, k, Ok(old), w, q)?;
     Ok(Going {
         faces: r.faces,
         corners: r.corners,
@@ -134,7 +134,7 @@ fn close(
         faces: s.faces,
         corners: s.corners,
     };
-    cell::add_face(limit, dst, at, counts, k, old, plane, q)
+    cell::add_face(limit, dst, at, counts, k, Ok(old), plane, q)
 }
 
 #[tactic(auto, unfolding(crate::specs::Clips::answered))]

@@ -2,6 +2,7 @@
 
 // How a corner and an edge meet the plane of a cut.
 ghost use Rattle.std.specs.Prelude.{◌≡◌};
+ghost use Rattle.refusal.specs.Outcome.{then};
 ghost use Rattle.edge.specs.Meets.{unseen, noted, at_corner, held_back, corner_meet, is_positive, is_negative, crosses, vague, no_ratio, between, landed, unless_vague, cut_meet, edge_meet};
 
 use interval::Sign;
@@ -34,21 +35,22 @@ pub fn unseen() -> Seen
     }
 }
 
-// One corner more.
+// One corner more; a refusal stays.
 #[tactic(auto, unfolding(crate::specs::Meets::noted))]
-pub fn note(s: Seen, side: Result<Side, Refusal>) -> Result<Seen, Refusal>
-    ensures { result ≡ noted s side }
+pub fn note(s: Result<Seen, Refusal>, side: Result<Side, Refusal>) -> Result<Seen, Refusal>
+    ensures { result ≡ then s (λ x. noted x side) }
 {
+    let seen = s?;
     match side? {
         Side::Positive => Ok(Seen {
-            negative: s.negative,
+            negative: seen.negative,
             positive: true,
         }),
         Side::Negative => Ok(Seen {
             negative: true,
-            positive: s.positive,
+            positive: seen.positive,
         }),
-        Side::Zero => Ok(s),
+        Side::Zero => Ok(seen),
     }
 }
 

@@ -4,7 +4,8 @@ use Rattle.std.proofs.Common.{sym, ◌∙◌, arith, length-take-le}
 use Rattle.std.proofs.Math.Path.{ap, subst}
 use Rattle.std.proofs.Math.ListN.{take}
 use Rattle.refusal.specs.declared.Refusal.{Refusal}
-use Rattle.refusal.specs.Outcome.{Outcome}
+use Rattle.refusal.specs.Outcome.{Outcome, then}
+use Rattle.refusal.specs.Laws.{stop, go}
 use Rattle.bodies.specs.Fusing.{fuse}
 use Rattle.interfaces.specs.Facets.{facets_of}
 use Rattle.cavities.specs.Steps.{volume_of}
@@ -54,11 +55,17 @@ module _ {room : ℕ} {y : Layout} {n : ℕ} {p : List Float} {c s w : List ℕ}
   pub tools_shelves : Shelves y.facets n out sizes shells
   tools_shelves = record { facets = omega (arith, R.facets, T.out); sizes = omega (arith, R.facets, T.sizes); bodies = omega (arith, R.cells, T.shells) }
 
-pub at_made : (y : Layout) (n : ℕ) (p : List Float) (c s w : List ℕ) (x₀ z₀ b₀ x z b : List ℕ) (r : Outcome Fused) →
+-- a refusal of the layout stays
+pub at_refused : (o : Outcome Layout) (n : ℕ) (p : List Float) (c s w : List ℕ) (x₀ z₀ b₀ x z b : List ℕ) (r : Outcome Fused) (e : Refusal) → o ≡ Err e → r ≡ Err e →
+    Laid (then o (λ y. fuse_at y n p c s w)) x₀ z₀ b₀ x z b r
+unfolding Laid
+at_refused o n p c s w x₀ z₀ b₀ x z b r e v g = subst (λ u. Laid u x₀ z₀ b₀ x z b r) (sym (stop o (λ y. fuse_at y n p c s w) e v)) g
+
+pub at_made : (o : Outcome Layout) (y : Layout) (n : ℕ) (p : List Float) (c s w : List ℕ) (x₀ z₀ b₀ x z b : List ℕ) (r : Outcome Fused) → o ≡ Ok y →
     Laid (fuse (volume_of (take (3 * y.points) p) (take y.vertices c) (take (y.facets + 1) s)) (facets_of (take y.vertices c) (take (y.facets + 1) s) (take y.facets w) y.facets) n) x₀ z₀ b₀ x z b r →
-    Laid (fuse_at y n p c s w) x₀ z₀ b₀ x z b r
+    Laid (then o (λ v. fuse_at v n p c s w)) x₀ z₀ b₀ x z b r
 unfolding fuse_at
-at_made y n p c s w x₀ z₀ b₀ x z b r l = l
+at_made o y n p c s w x₀ z₀ b₀ x z b r v l = subst (λ u. Laid u x₀ z₀ b₀ x z b r) (sym (go o (λ q. fuse_at q n p c s w) y v)) l
 
 -- slices of the same lengths serve as well
 pub tools_on : {room : ℕ} {e c u f d k s o l q m x z b : List ℕ} (e' f' : List ℕ) → Tools room e c u f d k s o l q m x z b → length e' ≡ length e → length f' ≡ length f → Tools room e' c u f' d k s o l q m x z b

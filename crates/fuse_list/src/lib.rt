@@ -1,6 +1,8 @@
 #![tactic(auto)]
 
 // The bodies of a list of cells: its arrangement, laid out in slices, and the bodies of that.
+ghost use Rattle.std.specs.Prelude.{◌≡◌, Ok};
+ghost use Rattle.refusal.specs.Outcome.{then};
 ghost use Rattle.assembly.specs.Answer.{Laid};
 ghost use Rattle.stack.specs.Stacks.{list_at, Holds};
 ghost use Rattle.arrangement.specs.Arrangements.{Lent};
@@ -19,9 +21,9 @@ pub struct Listing {
     pub fused: Fused,
 }
 
-// The bodies of n cells, whose arrangement stands at the front of four slices.
+// The bodies of n cells, whose arrangement stands at the front of four slices; a refusal of it stays.
 pub fn fuse_laid(
-    y: Layout,
+    y: Result<Layout, Refusal>,
     limit: usize,
     n: usize,
     points: &[f64],
@@ -43,12 +45,13 @@ pub fn fuse_laid(
     sizes: &mut [u64],
     shells: &mut [u64],
 ) -> Result<Fused, Refusal>
-    requires { Ready limit y n points.now cycles.now starts.now owners.now × Tools limit ext.old cells.old cuts.old faces.old d.old k.old s.old ord.old ends.old nodes.old marks.old out.old sizes.old shells.old }
-    ensures { Laid (fuse_at y n points.now cycles.now starts.now owners.now) out.old sizes.old shells.old out.new sizes.new shells.new result }
+    requires { ((x : Layout) → y ≡ Ok x → Ready limit x n points.now cycles.now starts.now owners.now) × Tools limit ext.old cells.old cuts.old faces.old d.old k.old s.old ord.old ends.old nodes.old marks.old out.old sizes.old shells.old }
+    ensures { Laid (then y (λ x. fuse_at x n points.now cycles.now starts.now owners.now)) out.old sizes.old shells.old out.new sizes.new shells.new result }
 {
-    let m = y.points;
-    let f = y.facets;
-    let v = y.vertices;
+    let made = y?;
+    let m = made.points;
+    let f = made.facets;
+    let v = made.vertices;
     fuse::fuse(
         &points[..3 * m],
         &cycles[..v],
@@ -109,8 +112,27 @@ pub fn fuse_list(
     );
     let layout = arranged?;
     let fused = fuse_laid(
-        layout, limit, n, points, cycles, starts, owners, corners, cells, cuts, lengths, runs, k,
-        s, ord, ends, sizes, marks, out, many, shells,
+        Ok(layout),
+        limit,
+        n,
+        points,
+        cycles,
+        starts,
+        owners,
+        corners,
+        cells,
+        cuts,
+        lengths,
+        runs,
+        k,
+        s,
+        ord,
+        ends,
+        sizes,
+        marks,
+        out,
+        many,
+        shells,
     )?;
     Ok(Listing { layout, fused })
 }

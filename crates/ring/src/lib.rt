@@ -4,7 +4,7 @@
 // The ring and the points of the cap stand at the front of two lent slices, so that no polygon is copied for a corner;
 // what these slices hold further on is of no account.
 ghost use Rattle.std.specs.Prelude.{◌≡◌, List, ◌+◌, ◌*◌, ◌≤◌, length, Float};
-ghost use Rattle.refusal.specs.Outcome.{walk};
+ghost use Rattle.refusal.specs.Outcome.{then, walk};
 ghost use Rattle.polygon.specs.Memory.{points_at};
 ghost use Rattle.ring.specs.Rings.{sign_one, push_both, pushed, cut_edge, cut_ring, Roomy, Added, Step, FaceStep, CapStep, Rung};
 
@@ -19,22 +19,23 @@ pub struct Ringed {
     pub caps: usize,
 }
 
-// The sides of n corners more.
+// The sides of n corners more; a refusal stays.
 pub fn sign_face(
     t: Precision,
     plane: Plane,
     src: &[f64],
     at: usize,
     n: usize,
-    s: Seen,
+    s: Result<Seen, Refusal>,
 ) -> Result<Seen, Refusal>
     requires { at + 3 * n ≤ length src.now }
-    ensures { result ≡ walk (sign_one t plane) s (points_at src.now at n) }
+    ensures { result ≡ then s (λ x. walk (sign_one t plane) x (points_at src.now at n)) }
 {
-    let mut out = s;
+    let seen = s?;
+    let mut out = seen;
     for i in 0..n {
         let q = polygon::get_point(src, at + 3 * i);
-        out = edge::note(out, side::side_of(plane, q, t))?;
+        out = edge::note(Ok(out), side::side_of(plane, q, t))?;
     }
     Ok(out)
 }

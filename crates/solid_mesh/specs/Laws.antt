@@ -1,10 +1,11 @@
 -- What the mesh's call hands back, in the words of the code.
-use Rattle.std.specs.Prelude.{◌≡◌, Bool, true, false, not, List, [], ◌∷◌, ◌++◌, ℕ, ◌+◌, ◌*◌, ◌/◌, ◌≤◌, ◌<◌, take, get_or, Float, Ok, Err}
+use Rattle.std.specs.Prelude.{◌≡◌, Bool, true, false, not, List, [], ◌∷◌, ◌++◌, ℕ, ◌+◌, ◌-◌, ◌*◌, ◌/◌, ◌≤◌, ◌<◌, take, get_or, Float, Ok, Err}
 use Rattle.std.proofs.Math.Path.{refl, ap, subst}
 use Rattle.std.proofs.Common.{sym, ◌∙◌, append_assoc, append-nil, arith, length-append, length-take, drop_of_length-le, take_at, length-take-le, lt-ltb, ltb-false}
 use Rattle.std.proofs.Math.ListN.{length}
 use Rattle.std.proofs.lemmas.List.Edits.{sets, sets-eq}
 use Rattle.std.proofs.Math.Seq.{length-sets}
+use Rattle.std.specs.Result.{IfOk}
 use Rattle.refusal.specs.declared.Refusal.{Refusal}
 use Rattle.refusal.specs.Outcome.{Outcome, refusal_of, then, unless}
 use Rattle.lists.specs.Laws.{next, done}
@@ -128,10 +129,14 @@ facet_same l y s h =
 triples_are : (l : List Triangle) → triangles_in (triples l) ≡ l
 triples_are l = take_at l _ _ refl
 
-few_by : (p : Precision) (f : Face) (o : Outcome (List Triangle)) (size : ℕ) → mesh_of p f ≡ o → length f.points ≤ 128 → 64 * length f.points ≤ size → Few (meshed o) size
+few_by : (p : Precision) (f : Face) (o : Outcome (List Triangle)) → mesh_of p f ≡ o → IfOk (meshed o) (λ t. t.n ≤ length f.points - 2)
 unfolding meshed
-few_by p f (Ok l) size e few room = let m = facet_mesh p f l e in (omega (arith, m.many, m.mesh.most), omega (arith, m.many, m.mesh.most))
-few_by p f (Err r) size e few room = tt
+few_by p f (Ok l) e = let m = facet_mesh p f l e in omega (arith, m.many, m.mesh.most)
+few_by p f (Err r) e = tt
+
+few_fit : (m : Outcome Triples) (n size : ℕ) → IfOk m (λ t. t.n ≤ n - 2) → n ≤ 128 → 64 * n ≤ size → Few m size
+few_fit (Ok t) n size h few room = (omega (arith, h), omega (arith, h))
+few_fit (Err r) n size h few room = tt
 
 -- the code's answer tells the outcome of the mesh
 drawing_is : (o : Outcome (List Triangle)) → drawing (meshed o) ≡ then o (λ ts. Ok (mesh_answer ts))
@@ -144,11 +149,16 @@ module _ (l : List ℕ) (y : FacetLayout) (s s' : List Float) (fit : 3 * y.point
   meshed_same : m ≡ meshed (mesh_of y.precision (face_of (facet_at l y)))
   meshed_same = e ∙ ap (λ x. meshed (mesh_of y.precision (facet y.plane (take (3 * y.points) x)))) u ∙ ap (λ f. meshed (mesh_of y.precision f)) (facet_same l y s fit)
 
-  pub few_triangles : (size : ℕ) → y.points ≤ 128 → 64 * y.points ≤ size → Few m size
+  pub few_triangles : IfOk m (λ t. t.n ≤ y.points - 2)
   unfolding facet_at points_from
-  few_triangles size few room =
+  few_triangles =
       let n : length (face_of (facet_at l y)).points ≡ y.points = length_from l y.start y.points in
-      subst (λ x. Few x size) (sym meshed_same) (few_by y.precision (face_of (facet_at l y)) (mesh_of y.precision (face_of (facet_at l y))) size refl (omega (arith, n)) (omega (arith, n)))
+      subst (λ k. IfOk m (λ t. t.n ≤ k - 2)) n
+      (subst (λ x. IfOk x (λ t. t.n ≤ length (face_of (facet_at l y)).points - 2)) (sym meshed_same) (few_by y.precision (face_of (facet_at l y)) (mesh_of y.precision (face_of (facet_at l y))) refl))
+
+  -- they fit the answer
+  pub few_answered : (size : ℕ) → y.points ≤ 128 → 64 * y.points ≤ size → Few m size
+  few_answered size = few_fit m y.points size few_triangles
 
   pub facet_drawn : (r : ℕ) (a b : List ℕ) → Drawn (drawing m) r a b → Drawn (mesh_bytes (facet_at l y)) r a b
   unfolding mesh_bytes facet_at

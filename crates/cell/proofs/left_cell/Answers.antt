@@ -3,7 +3,7 @@ use Rattle.std.proofs.Common.{rules}
 use Prim.Native.Nat.{ℕ, ◌+◌, ◌-◌, ◌*◌, ◌≤◌}
 use native.Mathlib.Omega.{arith}
 use lib.ListN.{length, get_or}
-use Rattle.cell.specs.Laws.{copying_start, copying_step, copying_stop, copying_end, ahead_small, ahead_inside}
+use Rattle.cell.specs.Laws.{copying_start, copying_step, copying_stop, copying_filled, copying_end, copying_all, ahead_small, ahead_inside}
 use Rattle.cell.proofs.left_cell.Goals as goal
 
 pub loop-i-init : goal.loop-i-init
@@ -42,11 +42,17 @@ overflow_add-o-in-loop-i c = let size : ℕ = (let A = c.args in get_or A.sizes.
 pub returns-in_err-s : goal.returns-in_err-s
 returns-in_err-s c =
     let told : c.from_residual.result ≡ Err c.in_err-s.field-0.0 = search rules in
-    copying_stop _ _ _ _ _ _ _ _ _ _ _ _ _ _ _ _ _ _ c.requires.listed c.loop-i-test.true c.copy_face.ensures c.loop-i.invariant _ _ c.in_err-s.was told
+    record {
+      stored = copying_stop _ _ _ _ _ _ _ _ _ _ _ _ _ _ _ _ _ _ c.requires.listed c.loop-i-test.true c.copy_face.ensures c.loop-i.invariant _ _ c.in_err-s.was told;
+      filled = copying_filled _ _ _ _ _ _ _ _ _ _ _ _ _ _ _ _ _ _ c.requires.listed c.loop-i-test.true c.copy_face.ensures c.loop-i.invariant _ c.in_err-s.was;
+    }
 
 pub loop-i-preserved : goal.loop-i-preserved
 loop-i-preserved c =
     copying_step _ _ _ _ _ _ _ _ _ _ _ _ _ _ _ _ _ _ c.requires.listed c.loop-i-test.true c.copy_face.ensures c.loop-i.invariant _ c.in_ok-s.was c.copy_face.auto.dst c.copy_face.auto.counts
 
 pub returns : goal.returns
-returns c = copying_end _ _ _ _ _ _ _ _ _ _ _ _ _ _ _ c.loop-i-test.false c.loop-i.invariant
+returns c = record {
+  stored = copying_end _ _ _ _ _ _ _ _ _ _ _ _ _ _ _ c.loop-i-test.false c.loop-i.invariant;
+  filled = copying_all _ _ _ _ _ _ _ _ _ _ _ _ _ _ _ c.loop-i-test.false c.loop-i.invariant;
+}

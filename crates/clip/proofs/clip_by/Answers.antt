@@ -11,7 +11,7 @@ left_cell-r-requires c =
 
 pub returns-then-negative : goal.returns-then-negative
 returns-then-negative c =
-    by_left _ _ _ _ _ _ _ _ _ _ _ _ c.answer-then-negative.ensures _ _ c.if-negative.true c.if-positive.false c.left_cell-r.ensures
+    by_left _ _ _ _ _ _ _ _ _ _ _ _ c.answer-then-negative.ensures _ _ c.if-negative.true c.if-positive.false c.left_cell-r.ensures.stored
 
 pub returns : goal.returns
 returns c = by_nothing _ _ _ _ _ _ _ _ _ _ c.if-negative.false

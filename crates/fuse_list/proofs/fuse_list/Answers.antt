@@ -13,7 +13,7 @@ fuse_laid-requires c =
     let h = c.requires in
     let l = c.requires.1 in
     let g = c.arrangement-arranged in (
-      list_ready h.0 _ g.ensures l.points l.cycles l.starts l.owners _ c.in_ok-layout.was,
+      λ x e. list_ready h.0 _ g.ensures l.points l.cycles l.starts l.owners x (c.in_ok-layout.was ∙ e),
       tools_on _ _ h.2 g.auto.corners g.auto.lengths,
     )
 

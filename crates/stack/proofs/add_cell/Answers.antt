@@ -38,7 +38,7 @@ push-requires c =
     let N = numbers _ _ _ _ _ _ c.requires.holds.0 in
     let F = cell_faces c.args.src.now c.args.from c.args.sizes.now c.args.j c.args.faces c.requires.given.0.listed in (
       N.fit,
-      whole_bound _ _ _ _ _ _ _ _ _ _ _ _ c.requires.holds.0 c.in-Ok.is (omega (arith, F, c.requires.given.3)) c.left_cell-r.ensures c.in-Ok-r.is c.requires.given.1,
+      whole_bound _ _ _ _ _ _ _ _ _ _ _ _ c.requires.holds.0 c.in-Ok.is (omega (arith, F, c.requires.given.3)) c.left_cell-r.ensures.stored c.in-Ok-r.is c.requires.given.1,
       N.wide,
       omega (arith, N.fit, N.wide, N.some, c.requires.holds.1.seats),
     )
@@ -46,9 +46,9 @@ push-requires c =
 pub returns-in-Ok-r : goal.returns-in-Ok-r
 returns-in-Ok-r c =
     let F = cell_faces c.args.src.now c.args.from c.args.sizes.now c.args.j c.args.faces c.requires.given.0.listed in
-    whole_added _ _ _ _ _ _ _ _ _ _ _ _ c.requires.holds.0 c.in-Ok.is (omega (arith, F, c.requires.given.3)) c.left_cell-r.ensures _ _ c.in-Ok-r.is (omega (arith, F, c.requires.given.2)) c.requires.given.1 c.requires.holds.1 refl refl c.push.ensures.value c.push.ensures.cells_after
+    whole_added _ _ _ _ _ _ _ _ _ _ _ _ c.requires.holds.0 c.in-Ok.is (omega (arith, F, c.requires.given.3)) c.left_cell-r.ensures.stored _ _ c.in-Ok-r.is (omega (arith, F, c.requires.given.2)) c.requires.given.1 c.requires.holds.1 refl refl c.push.ensures.value c.push.ensures.cells_after
 
 pub returns-in-Err : goal.returns-in-Err
 returns-in-Err c =
     let F = cell_faces c.args.src.now c.args.from c.args.sizes.now c.args.j c.args.faces c.requires.given.0.listed in
-    whole_refused _ _ _ (record { faces = 0; corners = 0 }) _ _ _ _ _ _ _ _ c.requires.holds.0 c.in-Ok.is (omega (arith, F, c.requires.given.3)) c.left_cell-r.ensures _ _ c.in-Err.is c.gone.ensures
+    whole_refused _ _ _ (record { faces = 0; corners = 0 }) _ _ _ _ _ _ _ _ c.requires.holds.0 c.in-Ok.is (omega (arith, F, c.requires.given.3)) c.left_cell-r.ensures.stored _ _ c.in-Err.is c.gone.ensures
