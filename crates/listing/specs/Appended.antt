@@ -5,8 +5,8 @@ use Rattle.std.proofs.Common.{◌∙◌, add-one, length-drop, take-suc, length-
 use mathlib.Core.List.{List, [], ◌∷◌, ◌++◌, append_assoc}
 use native.Mathlib.Omega.{arith}
 use Rattle.std.proofs.Math.ListN.{length, take, drop, length-append, take-append-drop}
-use Rattle.std.proofs.Math.Seq.{slice, set_split, length-slice, drop_at, drop-drop}
-use Rattle.std.proofs.lemmas.List.{drop-append-le, drop-take}
+use Rattle.std.proofs.Math.Seq.{slice, slice_empty, set_split, length-slice, drop_at, drop-drop}
+use Rattle.std.proofs.lemmas.List.{drop-append-le}
 
 unfoldable pub appended : List ℕ → ℕ → List ℕ → List ℕ
 appended d at s = take at d ++ (s ++ drop (at + length s) d)
@@ -54,13 +54,36 @@ module _ (d : List ℕ) (at : ℕ) where
 pub slice_snoc {ℓ} : {A : Type ℓ} (l : List A) (a k : ℕ) (z : A) → a ≤ k → k < length l → slice a (k + 1) l ≡ slice a k l ++ (get_or l k z ∷ [])
 slice_snoc l a k z h m = ap (λ n. drop a (take n l)) (add-one k) ∙ ap (drop a) (take-suc l k z m) ∙ drop-append-le a (take k l) (get_or l k z ∷ []) (omega (arith, length-take-le k l (omega arith)))
 
--- what a copy of s[a..e] to the place at leaves
-pub copied : (s d o : List ℕ) (a e at n : ℕ) → a ≤ e → e ≤ length s → n ≡ e - a → o ≡ take (e - a) (drop a s) → take at d ++ (o ++ drop n (drop at d)) ≡ appended d at (slice a e s)
-unfolding appended
-copied s d o a e at n h l q g =
-    let z : at + n ≡ at + length (slice a e s) = omega (arith, length-slice a e s l) in
-    let y : a + (e - a) ≡ e = omega arith in
-    ap₂ (λ x y. take at d ++ (x ++ y)) (g ∙ sym (drop-take a (e - a) s) ∙ ap (λ k. slice a k s) y) (drop-drop n at d ∙ ap (λ k. drop k d) z)
+pub record Copying (s : List ℕ) (a e : ℕ) (d₀ : List ℕ) (at : ℕ) (d : List ℕ) (i : ℕ) : Type 0 where
+  pub low : a ≤ i
+  pub high : i ≤ e
+  pub done : d ≡ appended d₀ at (slice a i s)
+
+module _ (s : List ℕ) (a e : ℕ) (d₀ : List ℕ) (at : ℕ) where
+  pub copying_start : a ≤ e → Copying s a e d₀ at d₀ a
+  copying_start h = record { low = omega arith; high = h; done = sym (append_none d₀ at) ∙ ap (appended d₀ at) (sym (slice_empty a s)) }
+
+  module _ (hs : e ≤ length s) (room : at + (e - a) ≤ length d₀) where
+    fits : (i : ℕ) → a ≤ i → i ≤ e → at + length (slice a i s) ≤ length d₀
+    fits i l h = omega (arith, length-slice a i s (omega arith))
+
+    pub copying_size : (d : List ℕ) (i : ℕ) → Copying s a e d₀ at d i → length d ≡ length d₀
+    copying_size d i w = ap length w.done ∙ length_appended d₀ at (slice a i s) (fits i w.low w.high)
+
+    pub copying_room : (d : List ℕ) (i : ℕ) → i < e → Copying s a e d₀ at d i → at + (i - a) < length d
+    copying_room d i h w = omega (arith, copying_size d i w, w.low)
+
+    pub copying_step : (d : List ℕ) (i : ℕ) → i < e → Copying s a e d₀ at d i → Copying s a e d₀ at (set d (at + (i - a)) (get_or s i 0)) (i + 1)
+    copying_step d i h w = record {
+      low = omega (arith, w.low);
+      high = omega arith;
+      done = append_one d (at + (i - a)) (get_or s i 0) (copying_room d i h w) ∙ ap (λ l. appended l (at + (i - a)) (get_or s i 0 ∷ [])) w.done
+          ∙ append_more d₀ at (slice a i s) (fits i w.low w.high) (at + (i - a)) (get_or s i 0 ∷ []) (omega (arith, length-slice a i s (omega arith)))
+          ∙ ap (appended d₀ at) (sym (slice_snoc s a i 0 w.low (omega arith)));
+    }
+
+    pub copying_end : (d : List ℕ) (i : ℕ) → e ≤ i → Copying s a e d₀ at d i → d ≡ appended d₀ at (slice a e s)
+    copying_end d i h w = let z : i ≡ e = omega (arith, w.high) in w.done ∙ ap (λ k. appended d₀ at (slice a k s)) z
 
 -- ---- how long rows are
 

@@ -8,13 +8,14 @@ ghost use Rattle.groups.specs.Groups.{joined};
 ghost use Rattle.cavities.specs.Outer.{outer_of};
 ghost use Rattle.listing.specs.Appended.{appended, gaps};
 
-// s[a..e] goes to `out` from `at` on.
+// s[a..e] goes to `out` from `at` on: a loop, for the reason that stands at `stack::copy_front`.
 fn copy_part(s: &[u64], a: usize, e: usize, out: &mut [u64], at: usize)
     requires { (a ≤ e) × (e ≤ length s.now) × (at + (e - a) ≤ length out.old) }
     ensures { out.new ≡ appended out.old at (slice a e s.now) }
 {
-    let n = e - a;
-    out[at..at + n].copy_from_slice(&s[a..e]);
+    for i in a..e {
+        out[at + (i - a)] = s[i];
+    }
 }
 
 // How long row k is.

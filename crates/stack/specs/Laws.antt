@@ -243,10 +243,28 @@ left_whole room c h =
 
 -- ---- a copy from the front
 
-pub copied_front : {A : Type 0} (d s : List A) (n : ℕ) → n ≤ length s → n ≤ length d → take n s ++ drop n d ≡ sets d 0 (take n s)
-copied_front d s n h k =
-    let e : 0 + length (take n s) ≡ n = omega (arith, length-take-le n s h) in
-    sym (sets-eq (take n s) d 0 (omega (arith, e)) ∙ ap (λ i. take n s ++ drop i d) e)
+pub record Copied {A : Type 0} (d₀ s : List A) (n : ℕ) (d : List A) (i : ℕ) : Type 0 where
+  pub upto : i ≤ n
+  pub size : length d ≡ length d₀
+  pub is : d ≡ sets d₀ 0 (take i s)
+
+pub copied_start : {A : Type 0} (d s : List A) (n : ℕ) → Copied d s n d 0
+copied_start d s n = record { upto = omega arith; size = refl; is = refl }
+
+pub copied_step : {A : Type 0} (d₀ s : List A) (n : ℕ) (d : List A) (i : ℕ) (v : A) → n ≤ length s → i < n → Copied d₀ s n d i → Copied d₀ s n (set d i (get_or s i v)) (i + 1)
+copied_step d₀ s n d i v h k c =
+    let e : 0 + length (take i s) ≡ i = omega (arith, length-take-le i s (omega arith)) in
+    record {
+      upto = omega arith;
+      size = length-set d i (get_or s i v) ∙ c.size;
+      is = ap (λ x. set x i (get_or s i v)) c.is
+          ∙ ap (λ k. set (sets d₀ 0 (take i s)) k (get_or s i v)) (sym e)
+          ∙ sets_append d₀ 0 (take i s) (get_or s i v ∷ [])
+          ∙ ap (sets d₀ 0) (sym (take-suc s i v (omega arith)) ∙ ap (λ k. take k s) (sym (add-one i)));
+    }
+
+pub copied_end : {A : Type 0} (d₀ s : List A) (n : ℕ) (d : List A) (i : ℕ) → n ≤ i → Copied d₀ s n d i → d ≡ sets d₀ 0 (take n s)
+copied_end d₀ s n d i h c = let e : i ≡ n = omega (arith, c.upto) in c.is ∙ ap (λ k. sets d₀ 0 (take k s)) e
 
 -- ---- slices that are as long as others serve as well
 

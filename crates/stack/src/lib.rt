@@ -155,10 +155,13 @@ pub fn add_cell(
     }
 }
 
-// The first n of one slice at the front of another.
+// The first n of one slice at the front of another. It is a loop since the library's copy of slices becomes memmove, a name that the archive
+// would need from outside.
 pub fn copy_front<T: Copy>(src: &[T], n: usize, dst: &mut [T])
     requires { (n ≤ length src.now) × (n ≤ length dst.old) }
     ensures { dst.new ≡ sets dst.old 0 (take n src.now) }
 {
-    dst[..n].copy_from_slice(&src[..n]);
+    for i in 0..n {
+        dst[i] = src[i];
+    }
 }
