@@ -183,18 +183,18 @@ fn block_in(
     inside(p, a, b, c, q)
 }
 
-// The turn at three places of the outline.
-pub fn turn_at(p: Precision, o: Outline, w: Triangle) -> Result<Turn, Refusal>
-    requires { Within o.n w × (o.n ≤ 128) }
-    ensures { result ≡ turn_at p (points_of o) w }
+// The turn at three places of the outline, which is lent: it is asked for again and again, and has 4 KB.
+pub fn turn_at(p: Precision, o: &Outline, w: Triangle) -> Result<Turn, Refusal>
+    requires { Within o.now.n w × (o.now.n ≤ 128) }
+    ensures { result ≡ turn_at p (points_of o.now) w }
 {
     turns::orientation(p, o.at[w.a], o.at[w.b], o.at[w.c])
 }
 
 // The corner at place q against the ear w.
-fn block_at(p: Precision, o: Outline, w: Triangle, q: usize) -> Result<Block, Refusal>
-    requires { Within o.n w × (q < o.n) × (o.n ≤ 128) }
-    ensures { result ≡ block_at p (points_of o) w q }
+fn block_at(p: Precision, o: &Outline, w: Triangle, q: usize) -> Result<Block, Refusal>
+    requires { Within o.now.n w × (q < o.now.n) × (o.now.n ≤ 128) }
+    ensures { result ≡ block_at p (points_of o.now) w q }
 {
     block_in(is_corner(w, q), p, o.at[w.a], o.at[w.b], o.at[w.c], o.at[q])
 }
@@ -207,7 +207,7 @@ pub fn scan(p: Precision, o: Outline, active: Active) -> Result<Found, Refusal>
     let mut found = Found::Nothing;
     'corners: for i in 0..active.n {
         let w = window(active, i);
-        match turn_at(p, o, w)? {
+        match turn_at(p, &o, w)? {
             Turn::Positive => {}
             Turn::Negative => continue 'corners,
             Turn::Zero => return Ok(Found::Straight(i)),
@@ -219,7 +219,7 @@ pub fn scan(p: Precision, o: Outline, active: Active) -> Result<Found, Refusal>
                 found = Found::Ear(i, w);
                 break 'corners;
             }
-            match block_at(p, o, w, active.at[j])? {
+            match block_at(p, &o, w, active.at[j])? {
                 Block::Clear => {}
                 Block::Blocked => break,
             }

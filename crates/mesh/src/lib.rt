@@ -64,7 +64,7 @@ fn last(p: Precision, o: Outline, active: Active, out: Triples) -> Result<Triple
         b: active.at[1],
         c: active.at[2],
     };
-    last_by(ears::turn_at(p, o, w), out, w)
+    last_by(ears::turn_at(p, &o, w), out, w)
 }
 
 // Ears and straight corners are taken off until three corners are left: 33, 31, 32.
