@@ -88,7 +88,7 @@ def declared(files):
             room = re.match(r"\s*module _ (.*) where$", line)
             if room:
                 rooms.append((depth[at], room[1]))
-            m = re.match(r"(\s*)(unfoldable |abbrev )?(pub )?(record |data )?([^\s:(){}]+)((?: \{[^}]*\})?(?: \([^)]*\))*(?: \{[^}]*\})*) : ", line)
+            m = re.match(r"(\s*)(unfoldable |abbrev )?(pub )?(record |data )?([^\s:(){}]+)((?: \{[^}]*\})?(?: \((?:[^()]|\((?:[^()]|\([^()]*\))*\))*\))*(?: \{[^}]*\})*) : ", line)
             if not m or m[5] in ("where", "let", "in", "λ", "|") or (m[1] and not m[3]):
                 at += 1
                 continue

@@ -72,7 +72,7 @@ tell("`for`", [f"{c}::{f}" for c, f, _, _, b in every for _ in re.findall(r"\bfo
 
 print("4. Equality, order, copying, conversion and printing by hand")
 tell("functions that map the variants of an enum to numbers, or numbers to variants", [f"{c}::{f}" for c, f, _, s, b in every if re.search(r"=> \d+,", b) or re.search(r"== \d+ \{\s*return (?:Ok\()?\w+::\w+(?:\(|;)", b)])
-tell("functions that copy a slice element by element", [f"{c}::{f}" for c, f, _, _, b in every if re.search(r"(\w+)\[([^\]]*)\] = \w+\[[^\]]*\];\s*\}\s*$|(\w+)\[([^\]]*)\] = \w+\[[^\]]*\];\s*\w+ \+= 1;\s*\}", b)])
+tell("functions that copy a slice element by element", [f"{c}::{f}" for c, f, _, _, b in every if re.search(r"(\w+)\[([^\]]*)\] = \w+\[[^\]]*\];\s*\}\s*\}?\s*$|(\w+)\[([^\]]*)\] = \w+\[[^\]]*\];\s*\w+ \+= 1;\s*\}", b)])
 
 print("5. Facts that stand in three contracts or more, parameters that travel together")
 facts = collections.defaultdict(set)
