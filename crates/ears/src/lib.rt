@@ -4,7 +4,7 @@
 ghost use Rattle.std.specs.Prelude.{◌≡◌, [], ◌+◌, ◌-◌, ◌%◌, ◌<◌, ◌≤◌};
 ghost use Rattle.outline.specs.Project.{points_of};
 ghost use Rattle.ears.specs.Places.{places_of, active, up_from, past_of, without, window_at};
-ghost use Rattle.ears.specs.Ears.{turn_at, allows, blocked_where, inside_by, inside_of, corner_of, block_in, block_at, blocked_by, scan_of, Ready};
+ghost use Rattle.ears.specs.Ears.{turn_at, allows, blocked_where, inside_by, inside_of, corner_of, block_in, scan_of, Ready};
 ghost use Rattle.ears.specs.Laws.{Within};
 
 use outline::Outline;
@@ -191,14 +191,6 @@ pub fn turn_at(p: Precision, o: &Outline, w: Triangle) -> Result<Turn, Refusal>
     turns::orientation(p, o.at[w.a], o.at[w.b], o.at[w.c])
 }
 
-// The corner at place q against the ear w.
-fn block_at(p: Precision, o: &Outline, w: Triangle, q: usize) -> Result<Block, Refusal>
-    requires { Within o.now.n w × (q < o.now.n) × (o.now.n ≤ 128) }
-    ensures { result ≡ block_at p (points_of o.now) w q }
-{
-    block_in(is_corner(w, q), p, o.at[w.a], o.at[w.b], o.at[w.c], o.at[q])
-}
-
 // The first corner that is straight, or an ear that no other corner blocks: 33.
 pub fn scan(p: Precision, o: Outline, active: Active) -> Result<Found, Refusal>
     requires { Ready o active }
@@ -212,6 +204,12 @@ pub fn scan(p: Precision, o: Outline, active: Active) -> Result<Found, Refusal>
             Turn::Negative => continue 'corners,
             Turn::Zero => return Ok(Found::Straight(i)),
         }
+        let ia = w.a;
+        let ib = w.b;
+        let ic = w.c;
+        let a = o.at[ia];
+        let b = o.at[ib];
+        let c = o.at[ic];
         // An ear leaves both loops at once, as document 01 asks, so the inner one ends in its midst and counts by hand.
         let mut j = 0;
         loop {
@@ -219,7 +217,8 @@ pub fn scan(p: Precision, o: Outline, active: Active) -> Result<Found, Refusal>
                 found = Found::Ear(i, w);
                 break 'corners;
             }
-            match block_at(p, &o, w, active.at[j])? {
+            let q = active.at[j];
+            match block_in(is_corner(w, q), p, a, b, c, o.at[q])? {
                 Block::Clear => {}
                 Block::Blocked => break,
             }

@@ -30,15 +30,23 @@ fn none() -> Triples
     }
 }
 
+// One triple more, in place.
+fn push(out: &mut Triples, w: Triangle)
+    requires { out.old.n < 126 }
+    ensures { out.new ≡ pushed out.old w }
+{
+    let n = out.n;
+    out.at[n] = w;
+    out.n = n + 1;
+}
+
 // The triples with one more.
 fn pushed(out: Triples, w: Triangle) -> Triples
     requires { out.n < 126 }
     ensures { result ≡ pushed out w }
 {
-    let n = out.n;
     let mut triples = out;
-    triples.at[n] = w;
-    triples.n = n + 1;
+    push(&mut triples, w);
     triples
 }
 
@@ -78,7 +86,7 @@ fn clip(p: Precision, o: Outline) -> Result<Triples, Refusal>
     while 3 < active.n {
         match ears::scan(p, o, active)? {
             Found::Ear(i, t) => {
-                out = pushed(out, t);
+                push(&mut out, t);
                 active = ears::remove(active, i);
             }
             Found::Straight(i) => {

@@ -105,7 +105,7 @@ loop-active-smaller-in-Ear c =
 pub loop-active-preserved-in-Ear : goal.loop-active-preserved-in-Ear
 loop-active-preserved-in-Ear c =
     off_ear c.loop-active.invariant c.scan.result c.scan.ensures c.remove-active.result c.in-Ear.i c.remove-active.ensures c.loop-active-test.true _ _ c.requires.1
-    (c.in_ok-i.was ∙ ap Ok c.in-Ear.is) c.pushed-out.ensures
+    (c.in_ok-i.was ∙ ap Ok c.in-Ear.is) c.push.ensures
 
 pub remove-active-requires-in-Straight : goal.remove-active-requires-in-Straight
 remove-active-requires-in-Straight c =
