@@ -85,9 +85,15 @@ def declared(files):
         while at < len(lines):
             line = lines[at]
             rooms = [r for r in rooms if r[0] < depth[at]] if line else rooms
-            room = re.match(r"\s*module _ (.*) where$", line)
-            if room:
-                rooms.append((depth[at], room[1]))
+            if re.match(r"\s*module _ ", line):
+                last = at
+                while not lines[last].endswith(" where"):
+                    last += 1
+                    if last == len(lines) or depth[last] <= depth[at]:
+                        sys.exit(f"{path}:{at + 1}: a module's head without its where")
+                rooms.append((depth[at], " ".join(l.strip() for l in lines[at : last + 1])[len("module _ ") : -len(" where")]))
+                at = last + 1
+                continue
             m = re.match(r"(\s*)(unfoldable |abbrev )?(pub )?(record |data )?([^\s:(){}]+)((?: \{[^}]*\})?(?: \((?:[^()]|\((?:[^()]|\([^()]*\))*\))*\))*(?: \{[^}]*\})*) : ", line)
             if not m or m[5] in ("where", "let", "in", "λ", "|") or (m[1] and not m[3]):
                 at += 1

@@ -210,7 +210,11 @@ pub record Copying (room : ℕ) (src : List Float) (from : ℕ) (ns : List ℕ) 
   pub out : Outcome Cell
   pub stored : Stored d₀ at n₀ k out (Ok s) d n
   pub rest : onward (add_face room) out (cell_at src o (drop i (counts_at ns j faces))) ≡ left_cell room (cell_at src from (counts_at ns j faces))
-  pub more : added room stored.cell (cell_at src o (drop i (counts_at ns j faces))) ≡ added room [] (cell_at src from (counts_at ns j faces))
+
+-- the same, and how much of the cell is added in the end
+pub record Filling (room : ℕ) (src : List Float) (from : ℕ) (ns : List ℕ) (j faces : ℕ) (d₀ : List Float) (at : ℕ) (n₀ : List ℕ) (k : ℕ) (s : Kept) (d : List Float) (n : List ℕ) (o i : ℕ) : Type 0 where
+  pub copying : Copying room src from ns j faces d₀ at n₀ k s d n o i
+  pub more : added room copying.stored.cell (cell_at src o (drop i (counts_at ns j faces))) ≡ added room [] (cell_at src from (counts_at ns j faces))
 
 -- an empty cell lies anywhere
 pub stored_none : (d : List Float) (at : ℕ) (n : List ℕ) (k : ℕ) → Stored d at n k (Ok []) (Ok (record { faces = 0; corners = 0 })) d n
@@ -219,7 +223,7 @@ stored_none d at n k = record { cell = []; is = refl; floats = refl; counts = re
 
 pub copying_start : (room : ℕ) (src : List Float) (from : ℕ) (ns : List ℕ) (j faces : ℕ) (d : List Float) (at : ℕ) (n : List ℕ) (k : ℕ) → Within (counts_at ns j faces) from (length src) →
     Copying room src from ns j faces d at n k (record { faces = 0; corners = 0 }) d n from 0
-unfolding left_cell stored_none
+unfolding left_cell
 copying_start room src from ns j faces d at n k h = record {
   ahead = record { upto = omega arith; within = h };
   few = omega arith;
@@ -229,59 +233,74 @@ copying_start room src from ns j faces d at n k h = record {
   out = Ok [];
   stored = stored_none d at n k;
   rest = refl;
-  more = refl;
 }
 
-module _ (room : ℕ) (src : List Float) (from : ℕ) (ns : List ℕ) (j faces : ℕ) (d₀ : List Float) (at : ℕ) (n₀ : List ℕ) (k : ℕ) (s : Kept) (q : Outcome Kept) (d : List Float) (n : List ℕ) (d' : List Float) (n' : List ℕ) (o i : ℕ)
-    (listed : j + faces ≤ length ns) (h : i < faces) (t : Turned room at k (λ c. add_face room c (face_at src o (get_or ns (j + i) 0))) (Ok s) q d n d' n') (c : Copying room src from ns j faces d₀ at n₀ k s d n o i) where
-  abbrev next : Outcome Cell
-  next = then c.out (λ y. add_face room y (face_at src o (get_or ns (j + i) 0)))
+pub filling_start : (room : ℕ) (src : List Float) (from : ℕ) (ns : List ℕ) (j faces : ℕ) (d : List Float) (at : ℕ) (n : List ℕ) (k : ℕ) → Within (counts_at ns j faces) from (length src) →
+    Filling room src from ns j faces d at n k (record { faces = 0; corners = 0 }) d n from 0
+unfolding copying_start stored_none
+filling_start room src from ns j faces d at n k h = record { copying = copying_start room src from ns j faces d at n k h; more = refl }
 
+module _ (room : ℕ) (src : List Float) (from : ℕ) (ns : List ℕ) (j faces : ℕ) (d₀ : List Float) (at : ℕ) (n₀ : List ℕ) (k : ℕ) (s : Kept) (q : Outcome Kept) (d : List Float) (n : List ℕ) (d' : List Float) (n' : List ℕ) (o i : ℕ)
+    (listed : j + faces ≤ length ns) (h : i < faces) (t : Turned room at k (λ c. add_face room c (face_at src o (get_or ns (j + i) 0))) (Ok s) q d n d' n') where
   abbrev others : Cell
   others = cell_at src (o + 13 + 3 * get_or ns (j + i) 0) (drop (i + 1) (counts_at ns j faces))
 
-  copying_onward : onward (add_face room) next others ≡ left_cell room (cell_at src from (counts_at ns j faces))
-  copying_onward = onward_next (add_face room) c.out (face_at src o (get_or ns (j + i) 0)) others ∙ ap (onward (add_face room) c.out) (sym (ahead_face src ns j faces o i listed h c.ahead)) ∙ c.rest
+  module _ (c : Copying room src from ns j faces d₀ at n₀ k s d n o i) where
+    abbrev next : Outcome Cell
+    next = then c.out (λ y. add_face room y (face_at src o (get_or ns (j + i) 0)))
 
-  -- what is still to be added
-  copying_more : added room c.stored.cell (face_at src o (get_or ns (j + i) 0) ∷ others) ≡ added room [] (cell_at src from (counts_at ns j faces))
-  copying_more = ap (added room c.stored.cell) (sym (ahead_face src ns j faces o i listed h c.ahead)) ∙ c.more
+    copying_onward : onward (add_face room) next others ≡ left_cell room (cell_at src from (counts_at ns j faces))
+    copying_onward = onward_next (add_face room) c.out (face_at src o (get_or ns (j + i) 0)) others ∙ ap (onward (add_face room) c.out) (sym (ahead_face src ns j faces o i listed h c.ahead)) ∙ c.rest
 
-  copying_face : next ≡ add_face room c.stored.cell (face_at src o (get_or ns (j + i) 0))
-  copying_face = ap (λ x. then x (λ y. add_face room y (face_at src o (get_or ns (j + i) 0)))) (sym c.stored.is)
+    copying_face : next ≡ add_face room c.stored.cell (face_at src o (get_or ns (j + i) 0))
+    copying_face = ap (λ x. then x (λ y. add_face room y (face_at src o (get_or ns (j + i) 0)))) (sym c.stored.is)
 
-  pub copying_step : (r : Kept) → q ≡ Ok r → length d' ≡ length d → length n' ≡ length n → Copying room src from ns j faces d₀ at n₀ k r d' n' (o + 13 + 3 * get_or ns (j + i) 0) (i + 1)
-  copying_step r e ld ln =
-      let u = subst (λ x. Turned room at k (λ c. add_face room c (face_at src o (get_or ns (j + i) 0))) (Ok s) x d n d' n') e t in
-      record {
-        ahead = ahead_next src ns j faces o i listed h c.ahead;
-        few = u.few;
-        fit = u.fit;
-        size = ld ∙ c.size;
-        slots = ln ∙ c.slots;
-        out = next;
-        stored = u.on d₀ n₀ c.out c.stored;
-        rest = copying_onward;
-        more = added_next room c.stored.cell (u.on d₀ n₀ c.out c.stored).cell (face_at src o (get_or ns (j + i) 0)) others ((u.on d₀ n₀ c.out c.stored).is ∙ copying_face) ∙ copying_more;
-      }
+    pub copying_step : (r : Kept) → q ≡ Ok r → length d' ≡ length d → length n' ≡ length n → Copying room src from ns j faces d₀ at n₀ k r d' n' (o + 13 + 3 * get_or ns (j + i) 0) (i + 1)
+    copying_step r e ld ln =
+        let u = subst (λ x. Turned room at k (λ c. add_face room c (face_at src o (get_or ns (j + i) 0))) (Ok s) x d n d' n') e t in
+        record {
+          ahead = ahead_next src ns j faces o i listed h c.ahead;
+          few = u.few;
+          fit = u.fit;
+          size = ld ∙ c.size;
+          slots = ln ∙ c.slots;
+          out = next;
+          stored = u.on d₀ n₀ c.out c.stored;
+          rest = copying_onward;
+        }
 
-  -- a refusal ends the loop
-  pub copying_stop : (x : Refusal) (r : Outcome Kept) → q ≡ Err x → r ≡ Err x → Stored d₀ at n₀ k (left_cell room (cell_at src from (counts_at ns j faces))) r d' n'
-  copying_stop x r e er =
-      let S = t.on d₀ n₀ c.out c.stored in
-      let z : next ≡ Err x = sym S.is ∙ ap (λ y. then y (λ v. Ok S.cell)) e in
-      subst (λ y. Stored d₀ at n₀ k y r d' n') (z ∙ ap (λ y. onward (add_face room) y others) (sym z) ∙ copying_onward)
-      (subst (λ y. Stored d₀ at n₀ k next y d' n') (e ∙ sym er) S)
+    -- a refusal ends the loop
+    pub copying_stop : (x : Refusal) (r : Outcome Kept) → q ≡ Err x → r ≡ Err x → Stored d₀ at n₀ k (left_cell room (cell_at src from (counts_at ns j faces))) r d' n'
+    copying_stop x r e er =
+        let S = t.on d₀ n₀ c.out c.stored in
+        let z : next ≡ Err x = sym S.is ∙ ap (λ y. then y (λ v. Ok S.cell)) e in
+        subst (λ y. Stored d₀ at n₀ k y r d' n') (z ∙ ap (λ y. onward (add_face room) y others) (sym z) ∙ copying_onward)
+        (subst (λ y. Stored d₀ at n₀ k next y d' n') (e ∙ sym er) S)
 
-  pub copying_filled : (x : Refusal) → q ≡ Err x → Filled room (cell_at src from (counts_at ns j faces)) d₀ at n₀ k d' n'
-  copying_filled x e =
-      let S = t.on d₀ n₀ c.out c.stored in
-      let full : Err x ≡ add_face room c.stored.cell (face_at src o (get_or ns (j + i) 0)) = ap (λ y. then y (λ v. Ok S.cell)) (sym e) ∙ S.is ∙ copying_face in
-      let w : added room [] (cell_at src from (counts_at ns j faces)) ≡ c.stored.cell = sym copying_more ∙ added_stop room c.stored.cell (face_at src o (get_or ns (j + i) 0)) others x full in
-      record {
-        floats = (t.kept x e).0 ∙ c.stored.floats ∙ ap (λ y. sets d₀ at (cell_floats y)) (sym w);
-        counts = (t.kept x e).1 ∙ c.stored.counts ∙ ap (λ y. sets n₀ k (cell_counts y)) (sym w);
-      }
+  module _ (f : Filling room src from ns j faces d₀ at n₀ k s d n o i) where
+    -- what is still to be added
+    filling_more : added room f.copying.stored.cell (face_at src o (get_or ns (j + i) 0) ∷ others) ≡ added room [] (cell_at src from (counts_at ns j faces))
+    filling_more = ap (added room f.copying.stored.cell) (sym (ahead_face src ns j faces o i listed h f.copying.ahead)) ∙ f.more
+
+    pub filling_step : (r : Kept) → q ≡ Ok r → length d' ≡ length d → length n' ≡ length n → Filling room src from ns j faces d₀ at n₀ k r d' n' (o + 13 + 3 * get_or ns (j + i) 0) (i + 1)
+    unfolding copying_step
+    filling_step r e ld ln =
+        let w = copying_step f.copying r e ld ln in
+        record {
+          copying = w;
+          more = added_next room f.copying.stored.cell w.stored.cell (face_at src o (get_or ns (j + i) 0)) others (w.stored.is ∙ copying_face f.copying) ∙ filling_more;
+        }
+
+    pub copying_filled : (x : Refusal) → q ≡ Err x → Filled room (cell_at src from (counts_at ns j faces)) d₀ at n₀ k d' n'
+    copying_filled x e =
+        let z = f.copying.stored in
+        let S = t.on d₀ n₀ f.copying.out z in
+        let full : Err x ≡ add_face room z.cell (face_at src o (get_or ns (j + i) 0)) = ap (λ y. then y (λ v. Ok S.cell)) (sym e) ∙ S.is ∙ copying_face f.copying in
+        let w : added room [] (cell_at src from (counts_at ns j faces)) ≡ z.cell = sym filling_more ∙ added_stop room z.cell (face_at src o (get_or ns (j + i) 0)) others x full in
+        record {
+          floats = (t.kept x e).0 ∙ z.floats ∙ ap (λ y. sets d₀ at (cell_floats y)) (sym w);
+          counts = (t.kept x e).1 ∙ z.counts ∙ ap (λ y. sets n₀ k (cell_counts y)) (sym w);
+        }
 
 pub copying_end : (room : ℕ) (src : List Float) (from : ℕ) (ns : List ℕ) (j faces : ℕ) (d₀ : List Float) (at : ℕ) (n₀ : List ℕ) (k : ℕ) (s : Kept) (d : List Float) (n : List ℕ) (o i : ℕ) → faces ≤ i →
     Copying room src from ns j faces d₀ at n₀ k s d n o i → Stored d₀ at n₀ k (left_cell room (cell_at src from (counts_at ns j faces))) (Ok s) d n
@@ -290,11 +309,12 @@ copying_end room src from ns j faces d₀ at n₀ k s d n o i h c =
     (sym (onward_end (add_face room) c.out) ∙ ap (onward (add_face room) c.out) (sym (ahead_done src ns j faces o i h)) ∙ c.rest) c.stored
 
 pub copying_all : (room : ℕ) (src : List Float) (from : ℕ) (ns : List ℕ) (j faces : ℕ) (d₀ : List Float) (at : ℕ) (n₀ : List ℕ) (k : ℕ) (s : Kept) (d : List Float) (n : List ℕ) (o i : ℕ) → faces ≤ i →
-    Copying room src from ns j faces d₀ at n₀ k s d n o i → Filled room (cell_at src from (counts_at ns j faces)) d₀ at n₀ k d n
+    Filling room src from ns j faces d₀ at n₀ k s d n o i → Filled room (cell_at src from (counts_at ns j faces)) d₀ at n₀ k d n
 unfolding added
-copying_all room src from ns j faces d₀ at n₀ k s d n o i h c =
-    let w : added room [] (cell_at src from (counts_at ns j faces)) ≡ c.stored.cell = sym c.more ∙ ap (added room c.stored.cell) (ahead_done src ns j faces o i h) in
+copying_all room src from ns j faces d₀ at n₀ k s d n o i h f =
+    let z = f.copying.stored in
+    let w : added room [] (cell_at src from (counts_at ns j faces)) ≡ z.cell = sym f.more ∙ ap (added room z.cell) (ahead_done src ns j faces o i h) in
     record {
-      floats = c.stored.floats ∙ ap (λ y. sets d₀ at (cell_floats y)) (sym w);
-      counts = c.stored.counts ∙ ap (λ y. sets n₀ k (cell_counts y)) (sym w);
+      floats = z.floats ∙ ap (λ y. sets d₀ at (cell_floats y)) (sym w);
+      counts = z.counts ∙ ap (λ y. sets n₀ k (cell_counts y)) (sym w);
     }
